@@ -1,0 +1,10 @@
+//! Reads JSON texts (RFC 8259) into documents, and looks their parts up.
+#![tactic(auto)]
+
+mod json;
+mod parts;
+mod text;
+
+pub use json::{Items, Json, Member, Members};
+pub use parts::{digits_of, is_null, items_of, member, members_of, text_of, truth_of};
+pub use text::{Decimal, Text};

@@ -1,0 +1,99 @@
+//! Texts and numbers of a document.
+
+ghost use Rattle.std.specs.Prelude.{◌≡◌, [], bytes_eq, string_bytes, IfOk};
+ghost use Rattle.std.specs.Cmp.{partial_equiv_from_equiv};
+ghost use Rattle.std.specs.Cmp.Lexicographic.{nat_list_eq_equiv};
+
+use std::alloc::{AllocError, Global};
+use std::marker::Model;
+
+/// A text. Contracts see it as the list of its bytes, which are UTF-8.
+#[derive(Debug, Drop)]
+pub struct Text {
+    text: String,
+}
+
+impl Model for Text {
+    ghost use Rattle.std.specs.Prelude.{List, ℕ, string_bytes};
+
+    ghost Value = { List ℕ };
+
+    ghost view = { λ a. string_bytes a.text };
+}
+
+impl Text {
+    /// The empty text. It takes no memory.
+    pub fn new(alloc: Global) -> Text
+        ensures { result ≡ [] }
+    {
+        Text {
+            text: String::new(alloc),
+        }
+    }
+
+    /// A copy of the text.
+    pub fn from_str(alloc: Global, text: &str) -> Result<Text, AllocError>
+        ensures { IfOk result (λ t. t ≡ text.now) }
+    {
+        Ok(Text {
+            text: String::from_str(alloc, text)?,
+        })
+    }
+
+    pub(crate) fn from_string(text: String) -> Text
+        ensures { result ≡ string_bytes text }
+    {
+        Text { text }
+    }
+
+    pub fn as_str(&self) -> &str
+        ensures { result.now ≡ self.now }
+    {
+        self.text.as_str()
+    }
+}
+
+impl Clone for Text {
+    ghost is_clone = { λ s t. t ≡ s };
+
+    fn clone(&self) -> Result<Text, AllocError> {
+        Ok(Text {
+            text: self.text.clone()?,
+        })
+    }
+}
+
+impl PartialEq for Text {
+    ghost eq = { bytes_eq };
+
+    ghost laws = { partial_equiv_from_equiv nat_list_eq_equiv };
+
+    fn eq(&self, other: &Text) -> bool {
+        self.text == other.text
+    }
+}
+
+impl Eq for Text {
+    ghost laws = { nat_list_eq_equiv };
+}
+
+/// A number as its own text, such as `-12`.
+#[derive(Debug, Drop)]
+pub struct Decimal {
+    digits: Text,
+}
+
+impl Decimal {
+    pub(crate) fn new(digits: Text) -> Decimal
+        ensures { result.digits ≡ digits }
+    {
+        Decimal { digits }
+    }
+
+    /// The number's own text.
+    pub fn digits(&self) -> &Text
+        ensures { result.now ≡ self.now.digits }
+    {
+        &self.digits
+    }
+}
