@@ -1,0 +1,11 @@
+//! Temporary: the first form of a project, until the whole project reader replaces it.
+//!
+//! A project of this form has green flag scripts of set and change blocks, whole numbers, and
+//! variables of the stage alone. docs/profile.md lists its seven rules.
+
+mod types;
+
+pub use types::{
+    FirstBlock, FirstBlocks, FirstCode, FirstMonitor, FirstMonitors, FirstOrder, FirstProject,
+    FirstTarget, FirstTargets, FirstVariable, FirstVariables,
+};

@@ -1,0 +1,281 @@
+//! What a project of the first form holds.
+
+ghost use Rattle.std.specs.Prelude.{◌≡◌, ◌<◌, length, slice_get, Some};
+
+use crate::style::Style;
+use crate::texts::Texts;
+use project_json::Text;
+use std::marker::Model;
+
+/// A target, the stage or a sprite, as its members tell it (Scratch 3 project file format). The
+/// stage stands at 0, 0 with size 100 and direction 90 and is shown, whatever the file says.
+/// Places are in stage units, sizes in percent, directions in degrees.
+#[derive(Debug, Drop)]
+pub struct FirstTarget {
+    pub is_stage: bool,
+    pub name: Text,
+    pub costumes: Texts,
+    /// The place of the present costume, from 0.
+    pub costume: u32,
+    pub layer_order: i32,
+    pub visible: bool,
+    pub x: i32,
+    pub y: i32,
+    pub size: i32,
+    pub direction: i32,
+    pub style: Style,
+}
+
+/// What a block does. A variable is a place among those of the stage.
+#[derive(Debug, Drop)]
+pub enum FirstCode {
+    /// When the green flag is clicked (`event_whenflagclicked`).
+    Flag,
+    /// Set a variable to a text (`data_setvariableto`).
+    Set { variable: u32, value: Text },
+    /// Change a variable by the number of a text (`data_changevariableby`).
+    Change { variable: u32, value: Text },
+}
+
+/// A block: what it does, the place of the block that follows it, and whether it begins a stack.
+#[derive(Debug, Drop)]
+pub struct FirstBlock {
+    pub code: FirstCode,
+    pub next: Option<u32>,
+    pub top_level: bool,
+}
+
+/// A variable of the stage, with the text of its value.
+#[derive(Debug, Drop)]
+pub struct FirstVariable {
+    pub name: Text,
+    pub value: Text,
+}
+
+/// A monitor of a variable: whether it is shown, and the place of the variable, which is `None`
+/// exactly where its id names no variable of the stage.
+#[derive(Clone, Copy, Debug, PartialEq, Eq)]
+pub struct FirstMonitor {
+    pub visible: bool,
+    pub variable: Option<u32>,
+}
+
+/// The targets, in the order of the file.
+#[derive(Debug, Drop)]
+pub struct FirstTargets {
+    targets: Vec<FirstTarget>,
+}
+
+impl Model for FirstTargets {
+    ghost use Rattle.std.specs.Prelude.{List};
+    ghost use Rattle.block_table.specs.declared.first.types.FirstTarget.{FirstTarget};
+
+    ghost Value = { List FirstTarget };
+
+    ghost view = { λ a. a.targets.items };
+}
+
+impl FirstTargets {
+    pub(crate) fn new(targets: Vec<FirstTarget>) -> FirstTargets
+        ensures { result ≡ targets.items }
+    {
+        FirstTargets { targets }
+    }
+
+    /// The targets, in order.
+    pub fn as_slice(&self) -> &[FirstTarget]
+        ensures { result.now ≡ self.now }
+    {
+        &self.targets
+    }
+}
+
+/// The blocks of one target, in the order of the document. A block's place is its number.
+#[derive(Debug, Drop)]
+pub struct FirstBlocks {
+    blocks: Vec<FirstBlock>,
+}
+
+impl Model for FirstBlocks {
+    ghost use Rattle.std.specs.Prelude.{List};
+    ghost use Rattle.block_table.specs.declared.first.types.FirstBlock.{FirstBlock};
+
+    ghost Value = { List FirstBlock };
+
+    ghost view = { λ a. a.blocks.items };
+}
+
+impl FirstBlocks {
+    pub(crate) fn new(blocks: Vec<FirstBlock>) -> FirstBlocks
+        ensures { result ≡ blocks.items }
+    {
+        FirstBlocks { blocks }
+    }
+
+    /// The blocks, in order.
+    pub fn as_slice(&self) -> &[FirstBlock]
+        ensures { result.now ≡ self.now }
+    {
+        &self.blocks
+    }
+}
+
+/// The variables of the stage, in the order of the document.
+#[derive(Debug, Drop)]
+pub struct FirstVariables {
+    variables: Vec<FirstVariable>,
+}
+
+impl Model for FirstVariables {
+    ghost use Rattle.std.specs.Prelude.{List};
+    ghost use Rattle.block_table.specs.declared.first.types.FirstVariable.{FirstVariable};
+
+    ghost Value = { List FirstVariable };
+
+    ghost view = { λ a. a.variables.items };
+}
+
+impl FirstVariables {
+    pub(crate) fn new(variables: Vec<FirstVariable>) -> FirstVariables
+        ensures { result ≡ variables.items }
+    {
+        FirstVariables { variables }
+    }
+
+    /// The variables, in order.
+    pub fn as_slice(&self) -> &[FirstVariable]
+        ensures { result.now ≡ self.now }
+    {
+        &self.variables
+    }
+}
+
+/// The monitors, in the order of the file.
+#[derive(Debug, Drop)]
+pub struct FirstMonitors {
+    monitors: Vec<FirstMonitor>,
+}
+
+impl Model for FirstMonitors {
+    ghost use Rattle.std.specs.Prelude.{List};
+    ghost use Rattle.block_table.specs.declared.first.types.FirstMonitor.{FirstMonitor};
+
+    ghost Value = { List FirstMonitor };
+
+    ghost view = { λ a. a.monitors.items };
+}
+
+impl FirstMonitors {
+    pub(crate) fn new(monitors: Vec<FirstMonitor>) -> FirstMonitors
+        ensures { result ≡ monitors.items }
+    {
+        FirstMonitors { monitors }
+    }
+
+    /// The monitors, in order.
+    pub fn as_slice(&self) -> &[FirstMonitor]
+        ensures { result.now ≡ self.now }
+    {
+        &self.monitors
+    }
+}
+
+/// The places of the targets in executable order: the stage, and then the sprites by their layer
+/// order, those with an equal one in the order of the file.
+#[derive(Debug, Drop)]
+pub struct FirstOrder {
+    places: Vec<u32>,
+}
+
+impl Model for FirstOrder {
+    ghost use Rattle.std.specs.Prelude.{List, ℕ};
+
+    ghost Value = { List ℕ };
+
+    ghost view = { λ a. a.places.items };
+}
+
+impl FirstOrder {
+    pub(crate) fn new(places: Vec<u32>) -> FirstOrder
+        ensures { result ≡ places.items }
+    {
+        FirstOrder { places }
+    }
+
+    /// The places, in order.
+    pub fn as_slice(&self) -> &[u32]
+        ensures { result.now ≡ self.now }
+    {
+        &self.places
+    }
+}
+
+/// A project of the first form. By its type each link names a later set or change block of its
+/// target, each variable of a block and of a monitor is one of the stage, and each target has its
+/// present costume.
+#[derive(Debug, Drop)]
+pub struct FirstProject {
+    targets: FirstTargets,
+    blocks: Vec<FirstBlocks>,
+    variables: FirstVariables,
+    monitors: FirstMonitors,
+    order: FirstOrder,
+}
+
+impl Model for FirstProject {
+    ghost use Rattle.std.specs.Prelude.{◌≡◌};
+    ghost use Rattle.block_table.specs.FirstProject.{Project, IsWell};
+    ghost use Rattle.block_table.specs.FirstOrder.{executable_order};
+
+    ghost Value = { Project };
+
+    ghost view = { λ a. record { targets = a.targets; blocks = a.blocks.items; variables = a.variables; monitors = a.monitors } };
+
+    ghost invariant = { λ a. IsWell (record { targets = a.targets; blocks = a.blocks.items; variables = a.variables; monitors = a.monitors }) × (a.order ≡ executable_order a.targets) };
+}
+
+impl FirstProject {
+    ghost use Rattle.block_table.specs.FirstProject.{IsWell};
+    ghost use Rattle.block_table.specs.FirstOrder.{executable_order};
+
+    /// The targets, in the order of the file.
+    pub fn targets(&self) -> &FirstTargets
+        ensures targets { result.now ≡ self.now.targets }
+        ensures well { IsWell self.now }
+    {
+        &self.targets
+    }
+
+    /// The blocks of a target, in the order of the document.
+    pub fn blocks(&self, target: u32) -> &FirstBlocks
+        requires { target < length self.now.targets }
+        ensures blocks { slice_get self.now.blocks target ≡ Some result.now }
+        ensures well { IsWell self.now }
+    {
+        &self.blocks[target as usize]
+    }
+
+    /// The variables of the stage.
+    pub fn variables(&self) -> &FirstVariables
+        ensures variables { result.now ≡ self.now.variables }
+        ensures well { IsWell self.now }
+    {
+        &self.variables
+    }
+
+    /// The monitors, in the order of the file.
+    pub fn monitors(&self) -> &FirstMonitors
+        ensures monitors { result.now ≡ self.now.monitors }
+        ensures well { IsWell self.now }
+    {
+        &self.monitors
+    }
+
+    /// The places of the targets in executable order.
+    pub fn order(&self) -> &FirstOrder
+        ensures order { result.now ≡ executable_order self.now.targets }
+        ensures well { IsWell self.now }
+    {
+        &self.order
+    }
+}

@@ -1,0 +1,13 @@
+//! The blocks of a project and what else its file tells, read from the document.
+#![tactic(auto)]
+
+mod first;
+mod style;
+mod texts;
+
+pub use first::{
+    FirstBlock, FirstBlocks, FirstCode, FirstMonitor, FirstMonitors, FirstOrder, FirstProject,
+    FirstTarget, FirstTargets, FirstVariable, FirstVariables,
+};
+pub use style::Style;
+pub use texts::Texts;
