@@ -1,0 +1,2 @@
+//! Runs the scripts of a project, a frame at a time.
+#![tactic(auto)]
