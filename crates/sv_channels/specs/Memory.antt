@@ -1,5 +1,5 @@
 -- A shelf and a sink in memory: what they answer and leave, call by call. Calls are numbered from 0.
-use Rattle.std.specs.Prelude.{◌≡◌, ℕ, ◌==◌, nat_lt, Bool, true, false, List, ◌++◌, length, take, Vec, Option, None, Some, if◌then◌else◌, Result, Ok, Err, IsOk, refl}
+use Rattle.std.specs.Prelude.{◌≡◌, ℕ, ◌==◌, nat_lt, Bool, true, false, List, ◌++◌, length, take, Vec, Option, None, Some, if◌then◌else◌, Result, Ok, Err, IsOk, IsSome, ⊤, refl}
 use Rattle.std.specs.List.{list_any}
 use Rattle.std.specs.FinMap.{get, insert, code}
 use Rattle.std.specs.Coded.{Coded, code_by, coded×, coded_ℕ, coded_list}
@@ -53,12 +53,13 @@ FetchesAs wanted (Err fetch.NoMemory) = IsOk wanted
 -- the shelf after a fetch
 abbrev pub after_fetch : ShelfState → Result (Vec ℕ Global) FetchError → ShelfState
 after_fetch s (Err fetch.Failed) = record s { calls = next_count s.calls; failed_fetches = next_count s.failed_fetches }
-after_fetch s _ = record s { calls = next_count s.calls }
+after_fetch s answer = record s { calls = next_count s.calls }
 
--- a put fails exactly where its call is listed
+-- a put fails exactly where its call is listed, and memory runs out only where it is not
 abbrev pub PutsAs : Bool → Result Unit PutError → Type 0
-PutsAs fails (Err put.Failed) = fails ≡ true
-PutsAs fails _ = fails ≡ false
+PutsAs listed (Ok _) = listed ≡ false
+PutsAs listed (Err put.Failed) = listed ≡ true
+PutsAs listed (Err put.NoMemory) = listed ≡ false
 
 -- the shelf after a put
 abbrev pub after_put : ShelfState → List ℕ → List ℕ → Result Unit PutError → ShelfState
@@ -78,11 +79,11 @@ pub record SinkState : Type 0 where
 abbrev pub fails_after : SinkState → Option ℕ
 fails_after s = second_of s.fails s.calls
 
--- a write fails exactly where its call is listed, and in place of each answer memory may run out
+-- a write fails exactly where its call is listed, but for want of memory
 abbrev pub WritesAs : Option ℕ → Result Unit SinkError → Type 0
-WritesAs None (Err sink.Failed) = ⊥
-WritesAs (Some count) (Ok _) = ⊥
-WritesAs cut answer = Unit {0}
+WritesAs cut (Ok _) = cut ≡ None
+WritesAs cut (Err sink.Failed) = IsSome cut
+WritesAs cut (Err sink.NoMemory) = ⊤
 
 -- the first bytes of the piece, or all of it
 abbrev pub part_of : Option ℕ → List ℕ → List ℕ

@@ -1,5 +1,5 @@
 -- What a sink answers to a write, and what is written afterwards.
-use Rattle.std.specs.Prelude.{◌≡◌, ℕ, ◌≤◌, List, [], ◌++◌, length, take, Option, Some, IfSome, Result, Ok, Err}
+use Rattle.std.specs.Prelude.{◌≡◌, ℕ, ◌≤◌, List, ◌++◌, length, take, Option, Some, IfSome, Result, Ok, Err}
 use Rattle.sv_channels.specs.declared.errors.SinkError.{SinkError}
 use Rattle.sv_channels.specs.declared.errors.SinkError.TheVariants.{Failed, NoMemory}
 
@@ -11,8 +11,8 @@ Gained old new piece = IfSome old (λ bytes. new ≡ Some (bytes ++ piece))
 abbrev pub GainedPart : Option (List ℕ) → Option (List ℕ) → List ℕ → Type 0
 GainedPart old new piece = (count : ℕ) × (count ≤ length piece) × Gained old new (take count piece)
 
--- What a write answers and leaves: it failed only where the count of faults rose; without memory nothing was written.
+-- What a write answers and leaves: it failed only where the count of faults rose; without memory nothing changed.
 abbrev pub WriteAnswer : Option (List ℕ) → Option (List ℕ) → List ℕ → Type 0 → Result Unit SinkError → Type 0
 WriteAnswer old new piece rose (Ok _) = Gained old new piece
 WriteAnswer old new piece rose (Err Failed) = rose × GainedPart old new piece
-WriteAnswer old new piece rose (Err NoMemory) = Gained old new []
+WriteAnswer old new piece rose (Err NoMemory) = new ≡ old

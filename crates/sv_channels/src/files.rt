@@ -1,7 +1,8 @@
 //! The files of the system.
 
-ghost use Rattle.std.specs.Prelude.{◌≡◌, ◌≤◌, ◌+◌, ◌^◌, ◌<◌, ℕ, None};
-ghost use Rattle.sv_channels.specs.Counts.{Rose, NoneFell, next_count};
+ghost use Rattle.std.specs.Prelude.{◌≡◌, ◌≢◌, ◌≤◌, None};
+ghost use Rattle.sv_channels.specs.Counts.{Rose};
+ghost use Rattle.sv_channels.specs.Edges.{counts_after_fetch, counts_after_put};
 ghost use Rattle.sv_channels.specs.Shelf.{FetchAnswer, PutAnswer};
 
 use crate::transfer::{ReadStop, read_up_to, write_whole};
@@ -64,7 +65,13 @@ impl<R: Files + Clone + Drop> Shelf for FileShelf<R> {
 
     ghost put_faults = { λ s _. s.puts };
 
-    fn fetch(&mut self, alloc: Global, name: &str, limit: u64) -> Result<Vec<u8>, FetchError> {
+    fn fetch(&mut self, alloc: Global, name: &str, limit: u64) -> Result<Vec<u8>, FetchError>
+        ensures answer { FetchAnswer None name.now limit (Rose self.old.fetches self.new.fetches) result }
+        ensures fetch_faults { self.old.fetches ≤ self.new.fetches }
+        ensures put_faults { self.old.puts ≤ self.new.puts }
+
+        ensures after { self.new ≡ counts_after_fetch self.old result }
+    {
         match self.read(alloc, name, limit.saturating_add(1)) {
             Ok(bytes) if bytes.len() as u64 <= limit => Ok(bytes),
             Ok(_) => Err(FetchError::TooLarge { limit }),
@@ -76,7 +83,15 @@ impl<R: Files + Clone + Drop> Shelf for FileShelf<R> {
         }
     }
 
-    fn put(&mut self, _alloc: Global, name: &str, bytes: &[u8]) -> Result<(), PutError> {
+    fn put(&mut self, _alloc: Global, name: &str, bytes: &[u8]) -> Result<(), PutError>
+        ensures answer { PutAnswer None None name.now bytes.now (Rose self.old.puts self.new.puts) result }
+        ensures fetch_faults { self.old.fetches ≤ self.new.fetches }
+        ensures put_faults { self.old.puts ≤ self.new.puts }
+
+        // It takes no memory.
+        ensures memory { result ≢ Err PutError.NoMemory }
+        ensures after { self.new ≡ counts_after_put self.old result }
+    {
         if !self.write(name, bytes) {
             self.failed_puts = self.failed_puts.saturating_add(1);
             return Err(PutError::Failed);

@@ -1,7 +1,8 @@
 //! The standard output.
 
-ghost use Rattle.std.specs.Prelude.{◌≡◌, ◌≤◌, None};
-ghost use Rattle.sv_channels.specs.Counts.{Rose, next_count};
+ghost use Rattle.std.specs.Prelude.{◌≡◌, ◌≢◌, ◌≤◌, None};
+ghost use Rattle.sv_channels.specs.Counts.{Rose};
+ghost use Rattle.sv_channels.specs.Edges.{count_after_write};
 ghost use Rattle.sv_channels.specs.Sink.{WriteAnswer};
 
 use crate::transfer::write_whole;
@@ -40,7 +41,14 @@ impl<R: Print + Clone + Drop> Sink for StdSink<R> {
 
     ghost faults = { λ count. count };
 
-    fn write(&mut self, _alloc: Global, bytes: &[u8]) -> Result<(), SinkError> {
+    fn write(&mut self, _alloc: Global, bytes: &[u8]) -> Result<(), SinkError>
+        ensures answer { WriteAnswer None None bytes.now (Rose self.old self.new) result }
+        ensures faults { self.old ≤ self.new }
+
+        // It takes no memory.
+        ensures memory { result ≢ Err SinkError.NoMemory }
+        ensures after { self.new ≡ count_after_write self.old result }
+    {
         if !write_whole(&mut io::writer(&self.rt), bytes) {
             self.faults = self.faults.saturating_add(1);
             return Err(SinkError::Failed);
