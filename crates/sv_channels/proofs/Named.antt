@@ -79,9 +79,9 @@ place_later name file files n other_name p = record {
   written = λ new is other.
       ap (cond (has_name other file) (Some file.1.items)) (p.written new is other)
       ∙ swapped (has_name other file) (bytes_eq name other) (Some file.1.items) (Some new.1.items) (file_at files other)
-          (λ a b. let same : string_bytes file.0 ≡ name = same_bytes _ _ a ∙ sym (same_bytes _ _ b) in
-              let yes : has_name name file ≡ true = (bytes_eq-Decides (string_bytes file.0) name).1 same in
-              cc);
+      (λ a b. let same : string_bytes file.0 ≡ name = same_bytes _ _ a ∙ sym (same_bytes _ _ b) in
+      let yes : has_name name file ≡ true = (bytes_eq-Decides (string_bytes file.0) name).1 same in
+      cc);
 }
 
 place_from : (name : List ℕ) (files : List Stored) (i p : ℕ) → position_from (has_name name) i files ≡ Some p → (n : ℕ) × (n + i ≡ p) × IsPlace name files n
@@ -109,12 +109,12 @@ same_files m n is = same_map nat_list_cmp_total (slice_cmp-IsAntisymmetric nat_c
 pub files_of-set : (name bytes : List ℕ) (files : List Stored) (p : ℕ) (file : Stored) → position_from (has_name name) 0 files ≡ Some p → string_bytes file.0 ≡ name → file.1.items ≡ bytes → files_of (map entry_of (set files p file)) ≡ insert (files_of (map entry_of files)) name bytes
 files_of-set name bytes files p file at is holds =
     same_files _ _ (λ other.
-        get-files_of (set files p file) other
-        ∙ (place_at name files p at).written file is other
-        ∙ ap (λ bs. cond (bytes_eq name other) (Some bs) (file_at files other)) holds
-        ∙ ap (cond (bytes_eq name other) (Some bytes)) (sym (get-files_of files other))
-        ∙ ap (λ b. cond b (Some bytes) (get (files_of (map entry_of files)) other)) (sym (same_test other name))
-        ∙ sym (get-insert nat_list_cmp_total (files_of (map entry_of files)) name bytes other))
+    get-files_of (set files p file) other
+    ∙ (place_at name files p at).written file is other
+    ∙ ap (λ bs. cond (bytes_eq name other) (Some bs) (file_at files other)) holds
+    ∙ ap (cond (bytes_eq name other) (Some bytes)) (sym (get-files_of files other))
+    ∙ ap (λ b. cond b (Some bytes) (get (files_of (map entry_of files)) other)) (sym (same_test other name))
+    ∙ sym (get-insert nat_list_cmp_total (files_of (map entry_of files)) name bytes other))
 
 pub files_of-push : (name bytes : List ℕ) (files : List Stored) → position_from (has_name name) 0 files ≡ None → files_of (map entry_of files ++ (name, bytes) ∷ []) ≡ insert (files_of (map entry_of files)) name bytes
 files_of-push name bytes files none =

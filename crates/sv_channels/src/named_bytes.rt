@@ -77,7 +77,5 @@ fn place_of(files: &[(String, Vec<u8>)], name: &str) -> Option<usize>
     ensures value { result ≡ position_from (λ file. bytes_eq (string_bytes file.0) name.now) 0 files.now }
     ensures within { IfSome result (λ place. place < length files.now) }
 {
-    files
-        .iter()
-        .position(|(other, _)| other.as_str() == name)
+    files.iter().position(|(other, _)| other.as_str() == name)
 }

@@ -23,7 +23,11 @@ impl From<AllocError> for ReadStop {
 }
 
 // The first `most` bytes of a reader, or all of them where they are fewer.
-pub(crate) fn read_up_to<F: Read>(alloc: Global, file: &mut F, most: u64) -> Result<Vec<u8>, ReadStop>
+pub(crate) fn read_up_to<F: Read>(
+    alloc: Global,
+    file: &mut F,
+    most: u64,
+) -> Result<Vec<u8>, ReadStop>
     ensures bound { IfOk result (λ bytes. length bytes.items ≤ most) }
     ensures bytes { IfOk result (λ bytes. IfSome (F.remaining file.old) (λ all. bytes.items ≡ take most all)) }
 {

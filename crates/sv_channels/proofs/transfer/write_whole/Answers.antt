@@ -8,12 +8,11 @@ pub loop-preserved : goal.loop-preserved
 loop-preserved g c =
     let done = c.loop.invariant.0 in
     let rest = c.loop.rest.now in
-    let count = c.in-Ok.count in
-    (
+    let count = c.in-Ok.count in (
       done ++ take count rest,
       ap (λ left. done ++ take count rest ++ left) (take_rest rest count)
-        ∙ append_assoc done (take count rest) (drop count rest)
-        ∙ ap (λ bytes. done ++ bytes) (take-append-drop count rest)
-        ∙ c.loop.invariant.1,
+          ∙ append_assoc done (take count rest) (drop count rest)
+          ∙ ap (λ bytes. done ++ bytes) (take-append-drop count rest)
+          ∙ c.loop.invariant.1,
       Appends-trans _ _ _ done (take count rest) c.loop.invariant.2 c.in-Ok.ensures.bytes,
     )

@@ -28,8 +28,8 @@ returns-in-None-clause-ok c =
     let at = ap (position_from (has_name name) 0) (sym c.deref.ensures.value) ∙ sym c.place_of.ensures.value ∙ c.in-None.is in
     IfOk-weaker c.push.result _ _
     (λ _ pushed.
-        ap files_of pushed
-        ∙ ap (λ es. files_of (es ++ (name, bytes) ∷ [])) (sym c.self.view_is)
-        ∙ files_of-push name bytes files at
-        ∙ ap (λ es. insert (files_of es) name bytes) c.self.view_is)
+    ap files_of pushed
+    ∙ ap (λ es. files_of (es ++ (name, bytes) ∷ [])) (sym c.self.view_is)
+    ∙ files_of-push name bytes files at
+    ∙ ap (λ es. insert (files_of es) name bytes) c.self.view_is)
     c.push.ensures.ok
