@@ -1,0 +1,7 @@
+pub mod Counts
+pub mod Edges
+pub mod Files
+pub mod Memory
+pub mod Pairs
+pub mod Shelf
+pub mod Sink

@@ -1,0 +1,133 @@
+//! Sinks in memory, for tests.
+
+ghost use Rattle.std.specs.Prelude.{◌≡◌, ◌≤◌, [], take, Some};
+ghost use Rattle.sv_channels.specs.Counts.{Rose};
+ghost use Rattle.sv_channels.specs.Sink.{WriteAnswer};
+ghost use Rattle.sv_channels.specs.Memory.{fails_after, WritesAs, after_write};
+
+use crate::{Pairs, Sink, SinkError};
+use std::alloc::Global;
+use std::marker::Model;
+
+/// Keeps all that is written, and fails only for want of memory. Its count of faults is 0.
+#[derive(Drop)]
+pub struct SteadySink {
+    bytes: Vec<u8>,
+}
+
+impl Model for SteadySink {
+    ghost use Rattle.std.specs.Prelude.{List, ℕ};
+
+    ghost Value = { List ℕ };
+
+    ghost view = { λ s. s.bytes.items };
+}
+
+impl SteadySink {
+    /// Nothing is written yet.
+    pub fn new(alloc: Global) -> Self
+        ensures { result ≡ [] }
+    {
+        SteadySink {
+            bytes: Vec::new(alloc),
+        }
+    }
+
+    /// All the bytes written so far.
+    pub fn written(&self) -> &[u8]
+        ensures { result.now ≡ self.now }
+    {
+        &self.bytes
+    }
+}
+
+impl Sink for SteadySink {
+    ghost written = { λ s. Some s };
+
+    ghost faults = { λ _. 0 };
+
+    fn write(&mut self, _alloc: Global, bytes: &[u8]) -> Result<(), SinkError> {
+        self.bytes.extend_from_slice(bytes)?;
+        Ok(())
+    }
+}
+
+/// Keeps what is written. Its calls are numbered from 0. A pair of a call's number and a length makes that call append
+/// the first bytes of its piece, so many or the whole piece, and fail. Of two pairs for one call the first counts.
+#[derive(Drop)]
+pub struct MemorySink {
+    bytes: Vec<u8>,
+    fails: Pairs,
+    calls: u64,
+    faults: u64,
+}
+
+impl Model for MemorySink {
+    ghost use Rattle.sv_channels.specs.Memory.{SinkState};
+
+    ghost Value = { SinkState };
+
+    ghost view = { λ s. record { written = s.bytes.items; fails = s.fails; calls = s.calls; faults = s.faults } };
+}
+
+impl MemorySink {
+    /// Nothing is written yet, and the listed calls fail.
+    pub fn new(alloc: Global, fails: Pairs) -> Self
+        ensures { result ≡ record { written = []; fails = fails; calls = 0; faults = 0 } }
+    {
+        MemorySink {
+            bytes: Vec::new(alloc),
+            fails,
+            calls: 0,
+            faults: 0,
+        }
+    }
+
+    /// All the bytes written so far.
+    pub fn written(&self) -> &[u8]
+        ensures { result.now ≡ self.now.written }
+    {
+        &self.bytes
+    }
+}
+
+// The first `count` bytes of the piece, or all of it.
+fn first_part(bytes: &[u8], count: u64) -> &[u8]
+    ensures { result.now ≡ take count bytes.now }
+{
+    if count < bytes.len() as u64 {
+        &bytes[..count as usize]
+    } else {
+        bytes
+    }
+}
+
+impl Sink for MemorySink {
+    ghost written = { λ s. Some s.written };
+
+    ghost faults = { λ s. s.faults };
+
+    /// Fails exactly where the call is listed, but for want of memory.
+    fn write(&mut self, _alloc: Global, bytes: &[u8]) -> Result<(), SinkError>
+        ensures answer { WriteAnswer (Some self.old.written) (Some self.new.written) bytes.now
+            (Rose self.old.faults self.new.faults) result }
+        ensures faults { self.old.faults ≤ self.new.faults }
+
+        ensures exact { WritesAs (fails_after self.old) result }
+        ensures after { self.new ≡ after_write self.old bytes.now result }
+    {
+        let cut = self.fails.second_of(self.calls);
+        self.calls = self.calls.saturating_add(1);
+        match cut {
+            None => {
+                self.bytes.extend_from_slice(bytes)?;
+                Ok(())
+            }
+            Some(count) => {
+                self.bytes.extend_from_slice(first_part(bytes, count))?;
+                self.faults = self.faults.saturating_add(1);
+                Err(SinkError::Failed)
+            }
+        }
+    }
+}

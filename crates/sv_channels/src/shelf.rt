@@ -1,0 +1,36 @@
+//! Files that are read and written whole, by their names.
+
+ghost use Rattle.std.specs.Prelude.{◌≡◌, ℕ, List, Option};
+ghost use Rattle.sv_channels.specs.Files.{Files};
+ghost use Rattle.sv_channels.specs.Counts.{Rose, NoneFell};
+ghost use Rattle.sv_channels.specs.Shelf.{FetchAnswer, PutAnswer};
+
+use crate::{FetchError, PutError};
+use std::alloc::Global;
+
+/// Files that are read and written whole, by their names.
+pub trait Shelf {
+    /// The files that are held, where the shelf tells them.
+    ghost held: { Self → Option Files };
+
+    /// How many fetches of a name have failed.
+    ghost fetch_faults: { Self → List ℕ → ℕ };
+
+    /// How many puts of a name have failed.
+    ghost put_faults: { Self → List ℕ → ℕ };
+
+    /// The bytes under the name, at most `limit` of them. A name that is not held is a failure.
+    fn fetch(&mut self, alloc: Global, name: &str, limit: u64) -> Result<Vec<u8>, FetchError>
+        ensures answer { FetchAnswer (held self.old) name.now limit
+            (Rose (fetch_faults self.old name.now) (fetch_faults self.new name.now)) result }
+        ensures held { held self.new ≡ held self.old }
+        ensures fetch_faults { NoneFell (fetch_faults self.old) (fetch_faults self.new) }
+        ensures put_faults { NoneFell (put_faults self.old) (put_faults self.new) };
+
+    /// Puts the bytes under the name, in place of what it held.
+    fn put(&mut self, alloc: Global, name: &str, bytes: &[u8]) -> Result<(), PutError>
+        ensures answer { PutAnswer (held self.old) (held self.new) name.now bytes.now
+            (Rose (put_faults self.old name.now) (put_faults self.new name.now)) result }
+        ensures fetch_faults { NoneFell (fetch_faults self.old) (fetch_faults self.new) }
+        ensures put_faults { NoneFell (put_faults self.old) (put_faults self.new) };
+}

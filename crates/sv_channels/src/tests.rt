@@ -1,0 +1,133 @@
+use crate::{
+    FetchError, FileShelf, MemoryShelf, MemorySink, NamedBytes, Numbers, Pairs, PutError, Shelf,
+    Sink, SinkError, StdSink, SteadySink,
+};
+use std::alloc::{AllocError, Global};
+use std::test::Fail;
+
+// A shelf that holds "a" twice, first with three bytes, and "b" with none.
+fn small_shelf(alloc: Global, fails: &[u64]) -> Result<MemoryShelf, AllocError> {
+    let mut files = NamedBytes::new(alloc);
+    files.push("a", b"abc")?;
+    files.push("a", b"other")?;
+    files.push("b", b"")?;
+    let mut numbers = Numbers::new(alloc);
+    for &number in fails {
+        numbers.push(number)?;
+    }
+    Ok(MemoryShelf::new(alloc, files, numbers))
+}
+
+#[test]
+fn fetches_within_the_limit(rt: HostRuntime) -> Result<(), Fail> {
+    let alloc = rt.alloc();
+    let mut shelf = small_shelf(alloc, &[])?;
+    assert_eq!(rt; shelf.fetch(alloc, "a", 3)?.as_slice(), b"abc".as_slice());
+    assert_eq!(rt;
+        shelf.fetch(alloc, "a", 2).err(),
+        Some(FetchError::TooLarge { limit: 2 })
+    );
+    assert_eq!(rt; shelf.fetch(alloc, "b", 0)?.len(), 0);
+    assert_eq!(rt; shelf.fetch(alloc, "c", 9).err(), Some(FetchError::Failed));
+    Ok(())
+}
+
+#[test]
+fn puts_in_place_and_at_the_end(rt: HostRuntime) -> Result<(), Fail> {
+    let alloc = rt.alloc();
+    let mut shelf = small_shelf(alloc, &[])?;
+    shelf.put(alloc, "a", b"new")?;
+    shelf.put(alloc, "c", b"more")?;
+    assert_eq!(rt; shelf.fetch(alloc, "a", 9)?.as_slice(), b"new".as_slice());
+    assert_eq!(rt; shelf.fetch(alloc, "c", 9)?.as_slice(), b"more".as_slice());
+    assert_eq!(rt; shelf.bytes("b").map(|bytes| bytes.len()), Some(0));
+    assert_eq!(rt; shelf.bytes("d").map(|bytes| bytes.len()), None);
+    Ok(())
+}
+
+#[test]
+fn listed_calls_of_a_shelf_fail(rt: HostRuntime) -> Result<(), Fail> {
+    let alloc = rt.alloc();
+    let mut shelf = small_shelf(alloc, &[1, 2])?;
+    assert_eq!(rt; shelf.fetch(alloc, "a", 9)?.len(), 3);
+    assert_eq!(rt; shelf.fetch(alloc, "a", 9).err(), Some(FetchError::Failed));
+    assert_eq!(rt; shelf.put(alloc, "a", b"new"), Err(PutError::Failed));
+    assert_eq!(rt; shelf.fetch(alloc, "a", 9)?.len(), 3);
+    Ok(())
+}
+
+#[test]
+fn listed_calls_of_a_sink_write_a_first_part(rt: HostRuntime) -> Result<(), Fail> {
+    let alloc = rt.alloc();
+    let mut fails = Pairs::new(alloc);
+    fails.push(1, 2)?;
+    fails.push(2, 9)?;
+    fails.push(2, 0)?;
+    let mut sink = MemorySink::new(alloc, fails);
+    sink.write(alloc, b"abc")?;
+    assert_eq!(rt; sink.write(alloc, b"def"), Err(SinkError::Failed));
+    assert_eq!(rt; sink.write(alloc, b"ghi"), Err(SinkError::Failed));
+    sink.write(alloc, b"jkl")?;
+    assert_eq!(rt; sink.written(), b"abcdeghijkl".as_slice());
+    Ok(())
+}
+
+#[test]
+fn a_steady_sink_keeps_all(rt: HostRuntime) -> Result<(), Fail> {
+    let alloc = rt.alloc();
+    let mut sink = SteadySink::new(alloc);
+    sink.write(alloc, b"ab")?;
+    sink.write(alloc, b"")?;
+    sink.write(alloc, b"c")?;
+    assert_eq!(rt; sink.written(), b"abc".as_slice());
+    Ok(())
+}
+
+#[test]
+fn files_are_read_back_within_the_limit(rt: HostRuntime) -> Result<(), Fail> {
+    let alloc = rt.alloc();
+    let mut shelf = FileShelf::new(rt.clone()?);
+    // More than two buffers of bytes that differ.
+    let mut bytes = Vec::new(alloc);
+    for number in 0..40_000u32 {
+        bytes.push((number % 251) as u8)?;
+    }
+    shelf.put(alloc, "file", b"longer at first")?;
+    shelf.put(alloc, "file", &bytes)?;
+    assert_eq!(rt;
+        shelf.fetch(alloc, "file", 40_000)?.as_slice(),
+        bytes.as_slice()
+    );
+    assert_eq!(rt;
+        shelf.fetch(alloc, "file", 39_999).err(),
+        Some(FetchError::TooLarge { limit: 39_999 })
+    );
+    assert_eq!(rt; shelf.fetch(alloc, "file", u64::MAX)?.len(), 40_000);
+    shelf.put(alloc, "file", b"")?;
+    assert_eq!(rt; shelf.fetch(alloc, "file", 0)?.len(), 0);
+    Ok(())
+}
+
+#[test]
+fn missing_files_and_folders_are_failures(rt: HostRuntime) -> Result<(), Fail> {
+    let alloc = rt.alloc();
+    let mut shelf = FileShelf::new(rt.clone()?);
+    assert_eq!(rt;
+        shelf.fetch(alloc, "missing", 9).err(),
+        Some(FetchError::Failed)
+    );
+    assert_eq!(rt;
+        shelf.put(alloc, "missing/file", b"abc"),
+        Err(PutError::Failed)
+    );
+    Ok(())
+}
+
+#[test]
+fn the_standard_output_is_written(rt: HostRuntime) -> Result<(), Fail> {
+    let alloc = rt.alloc();
+    let mut sink = StdSink::new(rt.clone()?);
+    assert_eq!(rt; sink.write(alloc, b"frame\n"), Ok(()));
+    assert_eq!(rt; sink.write(alloc, b""), Ok(()));
+    Ok(())
+}

@@ -1,0 +1,62 @@
+//! Loops that read from a file and write to a file or to the standard output.
+
+ghost use Rattle.std.specs.Prelude.{◌≡◌, ◌≤◌, length, take, IfOk, IfSome};
+ghost use Rattle.std.specs.Bool.{OnTrue};
+ghost use Rattle.std.specs.Io.KnownBytes.{Appends};
+
+use std::alloc::{AllocError, Global};
+use std::io::{Read, Write};
+
+// How many bytes are read at a time.
+const BUFFER_LENGTH: usize = 16384;
+
+// Why a file was not read.
+pub(crate) enum ReadStop {
+    Failed,
+    NoMemory,
+}
+
+impl From<AllocError> for ReadStop {
+    fn from(_error: AllocError) -> ReadStop {
+        ReadStop::NoMemory
+    }
+}
+
+// The first `most` bytes of a reader, or all of them where they are fewer.
+pub(crate) fn read_up_to<F: Read>(
+    alloc: Global,
+    file: &mut F,
+    most: u64,
+) -> Result<Vec<u8>, ReadStop>
+    ensures bound { IfOk result (λ bytes. length bytes.items ≤ most) }
+    ensures bytes { IfOk result (λ bytes. IfSome (F.remaining file.old) (λ all. bytes.items ≡ take most all)) }
+{
+    let mut bytes = Vec::new(alloc);
+    let mut buffer = [0u8; BUFFER_LENGTH];
+    for _ in 0..u64::MAX {
+        let room = (most - bytes.len() as u64).min(BUFFER_LENGTH as u64) as usize;
+        match file.read(&mut buffer[..room]) {
+            Ok(0) => return Ok(bytes),
+            Ok(count) => bytes.extend_from_slice(&buffer[..count])?,
+            Err(_) => return Err(ReadStop::Failed),
+        }
+    }
+    Err(ReadStop::Failed)
+}
+
+// Writes all the bytes, and says whether that went well. A write that takes none of them is a fault.
+pub(crate) fn write_whole<W: Write>(writer: &mut W, bytes: &[u8]) -> bool
+    ensures bytes { OnTrue result (Appends (W.contents writer.old) (W.contents writer.new) bytes.now) }
+{
+    let mut rest = bytes;
+    for _ in 0..u64::MAX {
+        if rest.is_empty() {
+            return true;
+        }
+        match writer.write(rest) {
+            Ok(count) if count > 0 => rest = &rest[count..],
+            _ => return false,
+        }
+    }
+    false
+}
