@@ -1,1 +1,3 @@
 pub mod Views
+pub mod Ascii
+pub mod Steps

@@ -2,3 +2,6 @@ pub mod Tree
 pub mod View
 pub mod Parts
 pub mod Size
+pub mod Grammar
+pub mod Refusal
+pub mod Reading
