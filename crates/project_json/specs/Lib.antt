@@ -5,3 +5,4 @@ pub mod Size
 pub mod Grammar
 pub mod Refusal
 pub mod Reading
+pub mod Places

@@ -2,6 +2,7 @@
 #![tactic(auto)]
 
 mod json;
+mod member_list;
 mod numbers;
 mod parts;
 mod refusal;
