@@ -1,1 +1,4 @@
 pub mod Views
+pub mod Ascii
+pub mod Steps
+pub mod Put
