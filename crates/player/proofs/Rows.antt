@@ -1,0 +1,115 @@
+-- Worked rows, computed by the definitions.
+use Rattle.std.specs.Prelude.{◌≡◌, ℕ, ◌*◌, ◌^◌, ◌+◌, List, [], ◌∷◌, ◌++◌, map, length, true, false, pos, Option, Some, None, codes, refl}
+use Rattle.std.specs.Fmt.{digits}
+use Rattle.std.specs.Str.{is_utf8, chars}
+use lib.Utf8.{encode}
+use Rattle.block_table.specs.declared.style.Style.TheVariants.{AllAround}
+use Rattle.block_table.specs.declared.first.types.FirstBlock.{FirstBlock}
+use Rattle.block_table.specs.declared.first.types.FirstTarget.{FirstTarget}
+use Rattle.block_table.specs.declared.first.types.FirstCode.{FirstCode}
+use Rattle.block_table.specs.declared.first.types.FirstCode.TheVariants.{Flag, Set, Change}
+use Rattle.block_table.specs.FirstProject.{Project}
+use Rattle.sequencer.specs.Script.{statements_within, statements}
+use Rattle.sequencer.specs.World.{World, Budget}
+use Rattle.sequencer.specs.Slice.{slice}
+use Rattle.sequencer.specs.Pass.{pass_from, pass}
+use Rattle.sequencer.specs.Frame.{passes, frame, first_world, flag_line}
+use Rattle.player.specs.Words.{form_of, whole_up_to, pieces}
+use Rattle.player.specs.Lines.{lines_of, line_of, nothing, flag, frame_line}
+use Rattle.player.specs.FrameText.{quoted}
+use Rattle.player.specs.Output.{Outcome, Ending, whole, bad_line, played}
+use Rattle.player.specs.Promise.{flat}
+
+stage_target : FirstTarget
+stage_target = record { is_stage = true; name = codes "Stage"; costumes = codes "b1" ∷ []; costume = 0; layer_order = pos 0; visible = true; x = pos 0; y = pos 0; size = pos 100; direction = pos 90; style = AllAround }
+
+cat_target : FirstTarget
+cat_target = record { is_stage = false; name = codes "Cat"; costumes = codes "c1" ∷ []; costume = 0; layer_order = pos 1; visible = true; x = pos 0; y = pos 0; size = pos 100; direction = pos 90; style = AllAround }
+
+-- the base file with these blocks in its sprite
+project_with : List FirstBlock → Project
+project_with blocks = record {
+  targets = stage_target ∷ cat_target ∷ [];
+  blocks = [] ∷ blocks ∷ [];
+  variables = record { name = codes "n"; value = codes "0" } ∷ [];
+  monitors = record { visible = true; variable = Some 0 } ∷ [];
+}
+
+set_and_change : List FirstBlock
+set_and_change =
+    record { code = Flag; next = Some 1; top_level = true } ∷
+    record { code = Set 0 (codes "5"); next = Some 2; top_level = false } ∷
+    record { code = Change 0 (codes "2"); next = None; top_level = false } ∷ []
+
+-- the lines, each with its end
+text : List (List ℕ) → List ℕ
+text [] = []
+text (l ∷ ls) = l ++ 10 ∷ text ls
+
+outcome : Project → List ℕ → Outcome
+outcome p script = played p 1 (first_world p) (lines_of script)
+
+-- the opening frame of the base file
+row-opening_frame : flat (outcome (project_with []) (text (codes "flag" ∷ codes "frame 0 30 1000" ∷ []))).frames ≡ text (
+    codes "frame 1 clock 0 words 0" ∷
+    codes "stage 1 \"b1\"" ∷
+    codes "sprite 1 \"Cat\" original shown 0 0 90 100 1 \"c1\" \"all around\"" ∷
+    codes "monitor \"n\" \"0\"" ∷
+    codes "end" ∷ [])
+unfolding stage_target cat_target project_with text outcome statements_within statements slice pass_from pass passes digits
+row-opening_frame = refl
+
+-- set n to 5, change n by 2
+row-set_and_change : flat (outcome (project_with set_and_change) (text (codes "flag" ∷ codes "frame 0 1 0" ∷ []))).frames ≡ text (
+    codes "frame 1 clock 0 words 0" ∷
+    codes "stage 1 \"b1\"" ∷
+    codes "sprite 1 \"Cat\" original shown 0 0 90 100 1 \"c1\" \"all around\"" ∷
+    codes "monitor \"n\" \"7\"" ∷
+    codes "end" ∷ [])
+unfolding stage_target cat_target project_with set_and_change text outcome statements_within statements slice pass_from pass passes digits
+row-set_and_change = refl
+
+-- an empty script is played to its end and writes nothing
+row-empty_script : outcome (project_with []) [] ≡ record { frames = []; ending = whole }
+unfolding stage_target cat_target project_with outcome
+row-empty_script = refl
+
+-- the line `stop` is refused, line 1
+row-stop : outcome (project_with []) (text (codes "stop" ∷ [])) ≡ record { frames = []; ending = bad_line 1 }
+unfolding stage_target cat_target project_with text outcome
+row-stop = refl
+
+-- a last line without its end, a clock that goes back
+row-clock_back : (outcome (project_with []) (codes "frame 100 1 1" ++ 10 ∷ codes "frame 50 1 1")).ending ≡ bad_line 2
+unfolding stage_target cat_target project_with outcome statements_within statements slice pass_from pass passes
+row-clock_back = refl
+
+row-no_passes : line_of 0 (codes "frame 0 0 1") ≡ None
+row-no_passes = refl
+
+row-two_spaces : line_of 0 (codes "frame  0 1 0") ≡ None
+row-two_spaces = refl
+
+row-comment : line_of 0 (codes "# hello") ≡ Some nothing
+unfolding is_utf8 chars encode
+row-comment = refl
+
+row-comment_not_utf8 : line_of 0 (35 ∷ 255 ∷ []) ≡ None
+unfolding is_utf8 chars encode
+row-comment_not_utf8 = refl
+
+row-quoted : quoted (codes "a\"b\\" ++ 10 ∷ []) ≡ codes "\"a\\\"b\\\\\\n\""
+row-quoted = refl
+
+-- the forms of the words
+row-form : form_of (codes "play" ∷ codes "p" ∷ codes "s" ∷ codes "18446744073709551615" ∷ codes "-" ∷ []) ≡ Some (record { project = codes "p"; script = codes "s" })
+row-form = refl
+
+row-seed_past : form_of (codes "play" ∷ codes "p" ∷ codes "s" ∷ codes "18446744073709551616" ∷ codes "-" ∷ []) ≡ None
+row-seed_past = refl
+
+row-seed_leading : form_of (codes "play" ∷ codes "p" ∷ codes "s" ∷ codes "01" ∷ codes "-" ∷ []) ≡ None
+row-seed_leading = refl
+
+row-save : form_of (codes "play" ∷ codes "p" ∷ codes "s" ∷ codes "1" ∷ codes "v" ∷ []) ≡ None
+row-save = refl

@@ -1,0 +1,6 @@
+pub mod Words
+pub mod Lines
+pub mod FrameText
+pub mod Output
+pub mod Promise
+pub mod Told
