@@ -8,9 +8,9 @@ use Rattle.block_table.specs.declared.first.types.FirstCode.{FirstCode}
 use Rattle.block_table.specs.declared.first.types.FirstCode.TheVariants.{Flag, Set, Change}
 use Rattle.block_table.specs.FirstProject.{Project}
 use Rattle.sequencer.specs.Number.{fixed, infinite, negative_infinite, sum, number_text}
+use Rattle.sequencer.specs.declared.budget.Budget.{Budget}
 use Rattle.sequencer.specs.Value.{text_of}
 use Rattle.sequencer.specs.Script.{statements_within, statements}
-use Rattle.sequencer.specs.World.{Budget}
 use Rattle.sequencer.specs.Slice.{slice}
 use Rattle.sequencer.specs.Pass.{pass_from, pass}
 use Rattle.sequencer.specs.Frame.{passes, frame, first_world, flag_line}

@@ -5,9 +5,10 @@ use Rattle.block_table.specs.declared.first.types.FirstCode.{FirstCode}
 use Rattle.block_table.specs.declared.first.types.FirstCode.TheVariants.{Flag, Set, Change}
 use Rattle.block_table.specs.FirstProject.{Project}
 use Rattle.block_table.specs.FirstOrder.{executable_order}
+use Rattle.sequencer.specs.declared.budget.Budget.{Budget}
 use Rattle.sequencer.specs.Value.{text}
 use Rattle.sequencer.specs.Script.{statements}
-use Rattle.sequencer.specs.World.{running, Thread, World, Budget}
+use Rattle.sequencer.specs.World.{running, Thread, World}
 use Rattle.sequencer.specs.Pass.{Passed, pass}
 
 -- goes on after a pass where a thread was active and no redraw is requested

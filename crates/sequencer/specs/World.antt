@@ -1,5 +1,6 @@
 -- The state of a run: plain lists, with what is left to do in place of each thread's block numbers.
 use Rattle.std.specs.Prelude.{ℕ, ◌*◌, ◌^◌, ◌≤◌, List, Bool, true, false}
+use Rattle.sequencer.specs.declared.budget.Budget.{Budget}
 use Rattle.sequencer.specs.Value.{Value}
 use Rattle.sequencer.specs.Script.{Statement}
 
@@ -27,12 +28,6 @@ pub record World : Type 0 where
   pub values : List Value
   pub threads : List Thread
   pub redraw : Bool
-
--- what a frame line hands in: the clock in milliseconds, the most passes, the most executions in warp
-pub record Budget : Type 0 where
-  pub clock : ℕ
-  pub passes : ℕ
-  pub warp : ℕ
 
 -- the ranges of a frame line
 pub record IsBudget (b : Budget) : Type 0 where

@@ -1,0 +1,39 @@
+-- A text cut at its first space, and a script cut at its first line end.
+use Rattle.std.proofs.Common.{◌≡◌, ℕ, suc, ◌+◌, ◌<◌, Bool, true, false, cond, eqb, List, [], ◌∷◌, ◌++◌, length, take, drop, refl, sym, ap, ◌∙◌, arith, add-one}
+use Rattle.std.specs.Prelude.{not}
+use Rattle.std.specs.List.{prefix_len, position_or_len, before_first, after_first, slice_split, onto_first}
+use Rattle.player.specs.Lines.{with_byte, lines_of}
+
+split_one : (b : Bool) (x : ℕ) (xs : List ℕ) (n : ℕ) (parts : List (List ℕ)) → cond (not b) (1 + n) 0 ≡ length (x ∷ xs) → (n ≡ length xs → parts ≡ xs ∷ []) → cond b ([] ∷ parts) (onto_first x parts) ≡ (x ∷ xs) ∷ []
+split_one true x xs n parts h k = absurd (omega arith)
+split_one false x xs n parts h k = ap (onto_first x) (k (omega arith))
+
+-- where no element passes, the list is the one part
+pub split_none : (p : ℕ → Bool) (xs : List ℕ) → position_or_len p xs ≡ length xs → slice_split p xs ≡ xs ∷ []
+split_none p [] h = refl
+split_none p (x ∷ xs) h = split_one (p x) x xs (position_or_len p xs) (slice_split p xs) h (split_none p xs)
+
+line_one : (b : Bool) (x : ℕ) (xs : List ℕ) (n : ℕ) (lines : List (List ℕ)) → cond (not b) (1 + n) 0 ≡ length (x ∷ xs) → (n ≡ length xs → with_byte x lines ≡ (x ∷ xs) ∷ []) → cond b ([] ∷ lines) (with_byte x lines) ≡ (x ∷ xs) ∷ []
+line_one true x xs n lines h k = absurd (omega arith)
+line_one false x xs n lines h k = k (omega arith)
+
+-- a script with no line end is one line
+pub lines_none : (x : ℕ) (xs : List ℕ) → position_or_len (λ b. eqb b 10) (x ∷ xs) ≡ length (x ∷ xs) → lines_of (x ∷ xs) ≡ (x ∷ xs) ∷ []
+lines_none x [] h = line_one (eqb x 10) x [] 0 [] h (λ e. refl)
+lines_none x (y ∷ ys) h = line_one (eqb x 10) x (y ∷ ys) (position_or_len (λ b. eqb b 10) (y ∷ ys)) (lines_of (y ∷ ys)) h (λ e. ap (with_byte x) (lines_none y ys e))
+
+line_first : (b : Bool) (x : ℕ) (xs : List ℕ) (n : ℕ) → cond (not b) (1 + n) 0 < length (x ∷ xs) → (n < length xs → lines_of xs ≡ take n xs ∷ lines_of (drop (n + 1) xs))
+    → cond b ([] ∷ lines_of xs) (with_byte x (lines_of xs)) ≡ take (cond (not b) (1 + n) 0) (x ∷ xs) ∷ lines_of (drop (cond (not b) (1 + n) 0 + 1) (x ∷ xs))
+line_first true x xs n h k = refl
+line_first false x xs n h k =
+    let one : 1 + n ≡ suc n = omega arith in
+    let two : 1 + n + 1 ≡ suc (n + 1) = omega arith in
+    let front : take (1 + n) (x ∷ xs) ≡ x ∷ take n xs = ap (λ i. take i (x ∷ xs)) one in
+    let back : lines_of (drop (1 + n + 1) (x ∷ xs)) ≡ lines_of (drop (n + 1) xs) = ap (λ i. lines_of (drop i (x ∷ xs))) two in
+    let rest : with_byte x (lines_of xs) ≡ (x ∷ take n xs) ∷ lines_of (drop (n + 1) xs) = ap (with_byte x) (k (omega arith)) in
+    cc
+
+-- the first line and the lines after it
+pub lines_first : (xs : List ℕ) → position_or_len (λ b. eqb b 10) xs < length xs → lines_of xs ≡ before_first (λ b. eqb b 10) xs ∷ lines_of (after_first (λ b. eqb b 10) xs)
+lines_first [] h = absurd (omega arith)
+lines_first (x ∷ xs) h = line_first (eqb x 10) x xs (position_or_len (λ b. eqb b 10) xs) h (lines_first xs)
