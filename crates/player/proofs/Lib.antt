@@ -1,1 +1,4 @@
 mod Rows
+pub mod Pieces
+pub mod Numerals
+pub mod LineWords

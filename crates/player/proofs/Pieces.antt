@@ -1,6 +1,9 @@
 -- A text cut at its first space, and a script cut at its first line end.
-use Rattle.std.proofs.Common.{◌≡◌, ℕ, suc, ◌+◌, ◌<◌, Bool, true, false, cond, eqb, List, [], ◌∷◌, ◌++◌, length, take, drop, refl, sym, ap, ◌∙◌, arith, add-one}
+use Rattle.std.proofs.Common.{◌≡◌, ℕ, zero, suc, ◌+◌, ◌-◌, ◌<◌, ◌≤◌, Bool, true, false, cond, eqb, List, [], ◌∷◌, ◌++◌, length, take, drop, refl, sym, ap, ◌∙◌, arith, length-drop}
 use Rattle.std.specs.Prelude.{not}
+use Rattle.std.proofs.lemmas.List.{take_all}
+use Rattle.std.proofs.lemmas.List.Sums.{prefix_len-le-length}
+use Rattle.std.proofs.Math.Seq.{drop-length}
 use Rattle.std.specs.List.{prefix_len, position_or_len, before_first, after_first, slice_split, onto_first}
 use Rattle.player.specs.Lines.{with_byte, lines_of}
 
@@ -37,3 +40,24 @@ line_first false x xs n h k =
 pub lines_first : (xs : List ℕ) → position_or_len (λ b. eqb b 10) xs < length xs → lines_of xs ≡ before_first (λ b. eqb b 10) xs ∷ lines_of (after_first (λ b. eqb b 10) xs)
 lines_first [] h = absurd (omega arith)
 lines_first (x ∷ xs) h = line_first (eqb x 10) x xs (position_or_len (λ b. eqb b 10) xs) h (lines_first xs)
+
+rest_all : (xs : List ℕ) (n k : ℕ) → length xs ≤ n + k → take n (drop k xs) ≡ drop k xs
+rest_all xs n k h = take_all n (drop k xs) (omega (arith, length-drop k xs))
+
+-- the script is cut at its first line end
+pub cut_line : (xs : List ℕ) (n : ℕ) → n ≡ position_or_len (λ b. eqb b 10) xs → n < length xs → lines_of xs ≡ take n xs ∷ lines_of (take (length xs - (n + 1)) (drop (n + 1) xs))
+cut_line xs n e h =
+    let first : lines_of xs ≡ take n xs ∷ lines_of (drop (n + 1) xs) = rw e (lines_first xs (rw (← e) h)) in
+    let rest = rest_all xs (length xs - (n + 1)) (n + 1) (omega arith) in
+    cc
+
+take_nil : (n : ℕ) → take {A = ℕ} n [] ≡ []
+take_nil zero = refl
+take_nil (suc n) = refl
+
+-- the script is one line
+pub whole_line : (xs : List ℕ) (n : ℕ) → 0 < length xs → n ≡ position_or_len (λ b. eqb b 10) xs → length xs ≤ n → lines_of xs ≡ xs ∷ lines_of (take (length xs - length xs) (drop (length xs) xs))
+whole_line [] n s e h = absurd (omega arith)
+whole_line (x ∷ xs) n s e h =
+    let none : take (length (x ∷ xs) - length (x ∷ xs)) (drop (length (x ∷ xs)) (x ∷ xs)) ≡ [] = ap (take (length (x ∷ xs) - length (x ∷ xs))) (drop-length (x ∷ xs)) ∙ take_nil (length (x ∷ xs) - length (x ∷ xs)) in
+    lines_none x xs (omega (arith, prefix_len-le-length (λ b. not (eqb b 10)) (x ∷ xs))) ∙ ap (λ ys. (x ∷ xs) ∷ lines_of ys) (sym none)

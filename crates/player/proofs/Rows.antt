@@ -10,12 +10,13 @@ use Rattle.block_table.specs.declared.first.types.FirstCode.{FirstCode}
 use Rattle.block_table.specs.declared.first.types.FirstCode.TheVariants.{Flag, Set, Change}
 use Rattle.block_table.specs.FirstProject.{Project}
 use Rattle.sequencer.specs.Script.{statements_within, statements}
-use Rattle.sequencer.specs.World.{World, Budget}
+use Rattle.sequencer.specs.World.{World}
 use Rattle.sequencer.specs.Slice.{slice}
 use Rattle.sequencer.specs.Pass.{pass_from, pass}
 use Rattle.sequencer.specs.Frame.{passes, frame, first_world, flag_line}
 use Rattle.player.specs.Words.{form_of, whole_up_to, pieces}
-use Rattle.player.specs.Lines.{lines_of, line_of, nothing, flag, frame_line}
+use Rattle.player.specs.declared.lines.Line.TheVariants.{Nothing}
+use Rattle.player.specs.Lines.{lines_of, line_of}
 use Rattle.player.specs.FrameText.{quoted}
 use Rattle.player.specs.Output.{Outcome, Ending, whole, bad_line, played}
 use Rattle.player.specs.Promise.{flat}
@@ -56,7 +57,7 @@ row-opening_frame : flat (outcome (project_with []) (text (codes "flag" ∷ code
     codes "sprite 1 \"Cat\" original shown 0 0 90 100 1 \"c1\" \"all around\"" ∷
     codes "monitor \"n\" \"0\"" ∷
     codes "end" ∷ [])
-unfolding stage_target cat_target project_with text outcome statements_within statements slice pass_from pass passes digits
+unfolding stage_target cat_target project_with text outcome statements_within statements slice pass_from pass passes digits is_utf8 chars encode
 row-opening_frame = refl
 
 -- set n to 5, change n by 2
@@ -66,7 +67,7 @@ row-set_and_change : flat (outcome (project_with set_and_change) (text (codes "f
     codes "sprite 1 \"Cat\" original shown 0 0 90 100 1 \"c1\" \"all around\"" ∷
     codes "monitor \"n\" \"7\"" ∷
     codes "end" ∷ [])
-unfolding stage_target cat_target project_with set_and_change text outcome statements_within statements slice pass_from pass passes digits
+unfolding stage_target cat_target project_with set_and_change text outcome statements_within statements slice pass_from pass passes digits is_utf8 chars encode
 row-set_and_change = refl
 
 -- an empty script is played to its end and writes nothing
@@ -76,21 +77,23 @@ row-empty_script = refl
 
 -- the line `stop` is refused, line 1
 row-stop : outcome (project_with []) (text (codes "stop" ∷ [])) ≡ record { frames = []; ending = bad_line 1 }
-unfolding stage_target cat_target project_with text outcome
+unfolding stage_target cat_target project_with text outcome is_utf8 chars encode
 row-stop = refl
 
 -- a last line without its end, a clock that goes back
 row-clock_back : (outcome (project_with []) (codes "frame 100 1 1" ++ 10 ∷ codes "frame 50 1 1")).ending ≡ bad_line 2
-unfolding stage_target cat_target project_with outcome statements_within statements slice pass_from pass passes
+unfolding stage_target cat_target project_with outcome statements_within statements slice pass_from pass passes is_utf8 chars encode
 row-clock_back = refl
 
 row-no_passes : line_of 0 (codes "frame 0 0 1") ≡ None
+unfolding is_utf8 chars encode
 row-no_passes = refl
 
 row-two_spaces : line_of 0 (codes "frame  0 1 0") ≡ None
+unfolding is_utf8 chars encode
 row-two_spaces = refl
 
-row-comment : line_of 0 (codes "# hello") ≡ Some nothing
+row-comment : line_of 0 (codes "# hello") ≡ Some Nothing
 unfolding is_utf8 chars encode
 row-comment = refl
 

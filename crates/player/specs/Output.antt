@@ -1,10 +1,12 @@
 -- The output of a run: what the lines of a script write, one after another, and how it ends.
 use Rattle.std.specs.Prelude.{ℕ, ◌+◌, List, [], ◌∷◌, Option, None, Some}
 use Rattle.block_table.specs.FirstProject.{Project}
-use Rattle.sequencer.specs.World.{World, Budget}
+use Rattle.sequencer.specs.World.{World}
 use Rattle.sequencer.specs.Frame.{frame, flag_line}
-use Rattle.player.specs.Lines.{Line, nothing, flag, frame_line, line_of}
+use Rattle.player.specs.Lines.{line_of}
 use Rattle.player.specs.FrameText.{frame_text}
+use Rattle.player.specs.declared.lines.Line.{Line}
+use Rattle.player.specs.declared.lines.Line.TheVariants.{Nothing, Flag, Frame}
 use Rattle.player.specs.declared.status.Which.{Which}
 
 -- how a run ends where nothing fails
@@ -30,9 +32,9 @@ with_frame text o = record { frames = text ∷ o.frames; ending = o.ending }
 -- line n: a good line goes on with the world after it, and a frame line writes its frame; a refused line ends the run
 abbrev pub line_played : Project → ℕ → World → Option Line → (World → Outcome) → Outcome
 line_played p n w None go = ends (bad_line n)
-line_played p n w (Some nothing) go = go w
-line_played p n w (Some flag) go = go (flag_line p w)
-line_played p n w (Some (frame_line b)) go = with_frame (frame_text p (frame b w)) (go (frame b w))
+line_played p n w (Some Nothing) go = go w
+line_played p n w (Some Flag) go = go (flag_line p w)
+line_played p n w (Some (Frame b)) go = with_frame (frame_text p (frame b w)) (go (frame b w))
 
 -- the lines in order, the first of which has the number n
 abbrev pub played : Project → ℕ → World → List (List ℕ) → Outcome

@@ -1,5 +1,6 @@
 -- Words: a whole number, the pieces of a line, and the form of the command's words.
 use Rattle.std.specs.Prelude.{ℕ, ◌-◌, ◌^◌, nat_le, ◌==◌, ◌&&◌, ◌||◌, not, List, [], ◌∷◌, length, slice_index, Bool, true, false, Option, None, Some, bytes_eq, codes, if◌then◌else◌}
+use Rattle.std.specs.List.{slice_split}
 use Rattle.std.specs.Str.{all_ascii_digits}
 use Rattle.std.specs.Str.Parse.{digits_value}
 
@@ -13,13 +14,8 @@ abbrev pub whole_up_to : ℕ → List ℕ → Option ℕ
 whole_up_to most word = if is_whole word && nat_le (digits_value 10 word) most then Some (digits_value 10 word) else None
 
 -- the pieces between single spaces, empty ones included
-abbrev pub before_piece : ℕ → List (List ℕ) → List (List ℕ)
-before_piece b [] = (b ∷ []) ∷ []
-before_piece b (piece ∷ pieces) = (b ∷ piece) ∷ pieces
-
 abbrev pub pieces : List ℕ → List (List ℕ)
-pieces [] = [] ∷ []
-pieces (b ∷ bs) = if b == 32 then [] ∷ pieces bs else before_piece b (pieces bs)
+pieces text = slice_split (λ b. b == 32) text
 
 -- the names of the files in `play PROJECT SCRIPT SEED -`
 pub record Form : Type 0 where
