@@ -7,3 +7,4 @@ pub mod Sound
 pub mod Sizes
 pub mod Complete
 pub mod Results
+pub mod Rows
