@@ -63,9 +63,13 @@ int_at (b ∷ bs) =
     else if is_nonzero_digit b then Ok (b ∷ digits bs, after_digits bs)
     else Err (syntax (length (b ∷ bs)))
 
-abbrev pub number_at : List ℕ → Read (List ℕ)
-number_at [] = Err (syntax 0)
-number_at (b ∷ bs) = if b == 45 then with_char 45 (int_at bs) else int_at (b ∷ bs)
+-- a number's own text
+abbrev pub digits_at : List ℕ → Read (List ℕ)
+digits_at [] = Err (syntax 0)
+digits_at (b ∷ bs) = if b == 45 then with_char 45 (int_at bs) else int_at (b ∷ bs)
+
+abbrev pub number_at : List ℕ → Read Tree
+number_at bs = digits_at bs >>= (λ x. Ok (number x.0, x.1))
 
 -- the characters up to the quotation mark, and what follows it
 abbrev pub chars_at : List ℕ → Read (List ℕ)
@@ -97,7 +101,7 @@ value_with items members (b ∷ bs) =
     else if b == 34 then chars_at bs >>= (λ x. Ok (text x.0, x.1))
     else if b == 91 then items bs >>= (λ x. Ok (list (trees_of x.0), x.1))
     else if b == 123 then members bs >>= (λ x. Ok (object (fields_of x.0), x.1))
-    else number_at (b ∷ bs) >>= (λ x. Ok (number x.0, x.1))
+    else number_at (b ∷ bs)
 
 -- an item, and whether another follows
 unfoldable pub item_at : (List ℕ → Read Tree) → List ℕ → Read (Tree × Bool)

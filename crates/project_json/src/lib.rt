@@ -5,6 +5,7 @@ mod json;
 mod member_list;
 mod numbers;
 mod parts;
+mod reading;
 mod refusal;
 mod scanning;
 mod stop;
@@ -13,5 +14,9 @@ mod text;
 
 pub use json::{Items, Json, Member, Members};
 pub use parts::{digits_of, is_null, items_of, member, members_of, text_of, truth_of};
+pub use reading::read;
 pub use refusal::JsonRefusal;
 pub use text::{Decimal, Text};
+
+#[cfg(test)]
+mod tests;

@@ -6,7 +6,7 @@ ghost use Rattle.project_json.specs.Grammar.{put};
 ghost use Rattle.project_json.specs.Places.{place_of};
 ghost use Rattle.project_json.specs.View.{tree, field};
 
-use crate::json::{Json, Member, Members};
+use crate::json::{Json, Member};
 use crate::text::Text;
 use std::alloc::{AllocError, Global};
 use std::collections::BTreeMap;
@@ -15,7 +15,7 @@ use std::collections::BTreeMap;
 /// looked up in the logarithm of their number.
 #[derive(Drop)]
 pub struct MemberList {
-    pub members: Vec<Member>,
+    members: Vec<Member>,
     places: BTreeMap<String, usize>,
     ghost indexed: { (name : List ℕ) → get_by_text places name ≡ place_of name (map field members.items) },
 }
@@ -50,5 +50,12 @@ impl MemberList {
                 Ok(MemberList { members, places })
             }
         }
+    }
+
+    pub fn into_members(self) -> Vec<Member>
+        ensures { result.items ≡ self.members.items }
+    {
+        let MemberList { members, places: _ } = self;
+        members
     }
 }

@@ -1,9 +1,14 @@
 //! The bytes of a number (RFC 8259 section 6).
 
 ghost use Rattle.std.specs.Prelude.{◌≡◌, ◌≤◌, length, take, drop, IfOk};
-ghost use Rattle.project_json.specs.Reading.{Gives, digits, after_digits, int_at, number_at};
+ghost use Rattle.project_json.specs.View.{tree};
+ghost use Rattle.project_json.specs.Reading.{Gives, digits, after_digits, int_at, digits_at, number_at};
 
+use crate::json::Json;
 use crate::stop::Stop;
+use crate::strings::text_from;
+use crate::text::Decimal;
+use std::alloc::Global;
 
 // How many digits stand at the front.
 fn digit_count(bytes: &[u8]) -> usize
@@ -32,9 +37,9 @@ fn int_len(bytes: &[u8]) -> Result<usize, Stop>
     }
 }
 
-/// How many bytes the number at the front takes.
-pub fn number_len(bytes: &[u8]) -> Result<usize, Stop>
-    ensures gives { Gives (λ n. (take n bytes.now, drop n bytes.now)) result (number_at bytes.now) }
+// How many bytes the number at the front takes.
+fn number_len(bytes: &[u8]) -> Result<usize, Stop>
+    ensures gives { Gives (λ n. (take n bytes.now, drop n bytes.now)) result (digits_at bytes.now) }
     ensures within { IfOk result (λ n. n ≤ length bytes.now) }
 {
     match bytes {
@@ -47,4 +52,13 @@ pub fn number_len(bytes: &[u8]) -> Result<usize, Stop>
             int_len(bytes)
         }
     }
+}
+
+/// The number at the front, and the bytes after it.
+pub fn number_of(alloc: Global, bytes: &[u8]) -> Result<(Json, &[u8]), Stop>
+    ensures { Gives (λ x. (tree x.0, x.1.now)) result (number_at bytes.now) }
+{
+    let len = number_len(bytes)?;
+    let digits = text_from(alloc, &bytes[..len])?;
+    Ok((Json::Number(Decimal::new(digits)), &bytes[len..]))
 }
