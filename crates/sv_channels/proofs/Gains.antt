@@ -18,8 +18,7 @@ Gained-trans (Some bytes) mid new first second g h =
 pub GainedPart-after : (old mid new : Option (List ℕ)) (first second : List ℕ) → Gained old mid first → GainedPart mid new second → GainedPart old new (first ++ second)
 GainedPart-after old mid new first second g h =
     let count = h.0 in
-    let joined : take (length first + count) (first ++ second) ≡ first ++ take count second = take-append-add first second count in
-    (
+    let joined : take (length first + count) (first ++ second) ≡ first ++ take count second = take-append-add first second count in (
       length first + count,
       omega (arith, h.1, length-append first second),
       subst (Gained old new) (sym joined) (Gained-trans old mid new first (take count second) g h.2),

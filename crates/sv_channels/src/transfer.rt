@@ -12,6 +12,7 @@ use std::io::{Read, Write};
 const BUFFER_LENGTH: usize = 16384;
 
 // Why a file was not read.
+#[derive(Drop)]
 pub(crate) enum ReadStop {
     Failed,
     NoMemory,
@@ -40,6 +41,9 @@ pub(crate) fn read_up_to<F: Read>(
     let mut buffer = [0u8; BUFFER_LENGTH];
     for _ in 0..u64::MAX {
         let room = (most - bytes.len() as u64).min(BUFFER_LENGTH as u64) as usize;
+        if room == 0 {
+            return Ok(bytes);
+        }
         match file.read(&mut buffer[..room]) {
             Ok(0) => return Ok(bytes),
             Ok(count) => bytes.extend_from_slice(&buffer[..count])?,
