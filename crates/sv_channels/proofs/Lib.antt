@@ -1,1 +1,3 @@
+pub mod Gains
 pub mod Named
+pub mod Rows

@@ -47,8 +47,7 @@ impl Sink for SteadySink {
     ghost faults = { λ _. 0 };
 
     fn write(&mut self, _alloc: Global, bytes: &[u8]) -> Result<(), SinkError> {
-        self.bytes.extend_from_slice(bytes)?;
-        Ok(())
+        Ok(self.bytes.extend_from_slice(bytes)?)
     }
 }
 

@@ -1,8 +1,11 @@
+use crate::transfer::{read_up_to, write_whole};
 use crate::{
     FetchError, FileShelf, MemoryShelf, MemorySink, NamedBytes, Numbers, Pairs, PutError, Shelf,
     Sink, SinkError, StdSink, SteadySink,
 };
 use std::alloc::{AllocError, Global};
+use std::io;
+use std::io::{ErrorKind, Read, Write};
 use std::test::Fail;
 
 // A shelf that holds "a" twice, first with three bytes, and "b" with none.
@@ -129,5 +132,58 @@ fn the_standard_output_is_written(rt: HostRuntime) -> Result<(), Fail> {
     let mut sink = StdSink::new(rt.clone()?);
     assert_eq!(rt; sink.write(alloc, b"frame\n"), Ok(()));
     assert_eq!(rt; sink.write(alloc, b""), Ok(()));
+    Ok(())
+}
+
+// Gives one byte at a time, and then fails.
+#[derive(Drop)]
+struct ShortReader {
+    left: u32,
+}
+
+impl Read for ShortReader {
+    fn read(&mut self, buffer: &mut [u8]) -> io::Result<usize> {
+        if self.left == 0 {
+            return Err(io::Error::from(ErrorKind::Other));
+        }
+        match buffer.first_mut() {
+            Some(byte) => {
+                *byte = b'x';
+                self.left -= 1;
+                Ok(1)
+            }
+            None => Ok(0),
+        }
+    }
+}
+
+// Takes one byte at a time, and then none.
+#[derive(Drop)]
+struct ShortWriter {
+    room: u32,
+}
+
+impl Write for ShortWriter {
+    fn write(&mut self, bytes: &[u8]) -> io::Result<usize> {
+        if self.room == 0 || bytes.is_empty() {
+            return Ok(0);
+        }
+        self.room -= 1;
+        Ok(1)
+    }
+
+    fn flush(&mut self) -> io::Result<()> {
+        Ok(())
+    }
+}
+
+#[test]
+fn a_transfer_may_stop_half_way(rt: HostRuntime) -> Result<(), Fail> {
+    let alloc = rt.alloc();
+    let whole = read_up_to(alloc, &mut ShortReader { left: 3 }, 3);
+    assert_eq!(rt; whole.ok().map(|bytes| bytes.len()), Some(3));
+    assert!(rt; read_up_to(alloc, &mut ShortReader { left: 2 }, 3).is_err());
+    assert!(rt; write_whole(&mut ShortWriter { room: 3 }, b"abc"));
+    assert!(rt; !write_whole(&mut ShortWriter { room: 2 }, b"abc"));
     Ok(())
 }

@@ -2,7 +2,8 @@
 
 ghost use Rattle.std.specs.Prelude.{◌≡◌, ◌≤◌, length, take, IfOk, IfSome};
 ghost use Rattle.std.specs.Bool.{OnTrue};
-ghost use Rattle.std.specs.Io.KnownBytes.{Appends};
+ghost use Rattle.std.specs.Io.KnownBytes.{Appends, Consumes};
+ghost use Rattle.sv_channels.specs.declared.transfer.ReadStop.TheVariants as stops;
 
 use std::alloc::{AllocError, Global};
 use std::io::{Read, Write};
@@ -11,12 +12,15 @@ use std::io::{Read, Write};
 const BUFFER_LENGTH: usize = 16384;
 
 // Why a file was not read.
+#[derive(Drop)]
 pub(crate) enum ReadStop {
     Failed,
     NoMemory,
 }
 
 impl From<AllocError> for ReadStop {
+    ghost from_gives = { λ _ stop. stop ≡ stops.NoMemory };
+
     fn from(_error: AllocError) -> ReadStop {
         ReadStop::NoMemory
     }
@@ -30,11 +34,16 @@ pub(crate) fn read_up_to<F: Read>(
 ) -> Result<Vec<u8>, ReadStop>
     ensures bound { IfOk result (λ bytes. length bytes.items ≤ most) }
     ensures bytes { IfOk result (λ bytes. IfSome (F.remaining file.old) (λ all. bytes.items ≡ take most all)) }
+    // No more is read than is answered.
+    ensures taken { IfOk result (λ bytes. Consumes (F.remaining file.old) (F.remaining file.new) bytes.items) }
 {
     let mut bytes = Vec::new(alloc);
     let mut buffer = [0u8; BUFFER_LENGTH];
     for _ in 0..u64::MAX {
         let room = (most - bytes.len() as u64).min(BUFFER_LENGTH as u64) as usize;
+        if room == 0 {
+            return Ok(bytes);
+        }
         match file.read(&mut buffer[..room]) {
             Ok(0) => return Ok(bytes),
             Ok(count) => bytes.extend_from_slice(&buffer[..count])?,
