@@ -44,13 +44,14 @@ abbrev pub optional : {A : Type 0} → (Tree → Option A) → A → Option Tree
 optional read default None = Some default
 optional read default (Some m) = read m
 
--- a null reads as the default
-abbrev pub or_null : {A : Type 0} → (Tree → Option A) → A → Tree → Option A
-or_null read default m = if is_null m then Some default else read m
+-- a null is as no member
+abbrev pub present : Option Tree → Option Tree
+present None = None
+present (Some m) = if is_null m then None else Some m
 
 -- a member that has a default: absent and null are the default
 abbrev pub defaulted : {A : Type 0} → (Tree → Option A) → A → List ℕ → Tree → Option A
-defaulted read default name t = optional (or_null read default) default (member_of t name)
+defaulted read default name t = optional read default (present (member_of t name))
 
 -- a member that may be absent, and is not null
 abbrev pub given : {A : Type 0} → (Tree → Option A) → A → List ℕ → Tree → Option A

@@ -1,3 +1,4 @@
 pub mod FirstProject
 pub mod FirstOrder
 pub mod FirstForm
+pub mod FirstReads

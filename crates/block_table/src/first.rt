@@ -3,8 +3,12 @@
 //! A project of this form has green flag scripts of set and change blocks, whole numbers, and
 //! variables of the stage alone. docs/profile.md lists its seven rules.
 
+mod members;
+mod numbers;
+mod refusal;
 mod types;
 
+pub use refusal::FirstRefusal;
 pub use types::{
     FirstBlock, FirstBlocks, FirstCode, FirstMonitor, FirstMonitors, FirstOrder, FirstProject,
     FirstTarget, FirstTargets, FirstVariable, FirstVariables,
