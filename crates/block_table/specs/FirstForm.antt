@@ -114,15 +114,21 @@ abbrev pub first_two_of : List Tree → Option (Tree × Tree)
 first_two_of (a ∷ b ∷ ts) = Some (a, b)
 first_two_of ts = None
 
+abbrev pub two_in : Tree → Option (Tree × Tree)
+two_in t = items_in t >>= two_of
+
+abbrev pub first_two_in : Tree → Option (Tree × Tree)
+first_two_in t = items_in t >>= first_two_of
+
 -- Variables, lists, costumes
 
 -- the id of a variable, and the variable
 abbrev pub variable_of : List ℕ × Tree → Option (List ℕ × FirstVariable)
-variable_of m = items_in m.1 >>= first_two_of >>= (λ x. text_in x.0 >>= (λ name. value_in x.1 >>= (λ value. Some (m.0, record { name = name; value = value }))))
+variable_of m = first_two_in m.1 >>= (λ x. text_in x.0 >>= (λ name. value_in x.1 >>= (λ value. Some (m.0, record { name = name; value = value }))))
 
 -- a list that is empty, with its name
 abbrev pub is_empty_list : List ℕ × Tree → Option (Unit {0})
-is_empty_list m = items_in m.1 >>= first_two_of >>= (λ x. text_in x.0 >>= (λ name. items_in x.1 >>= none_of))
+is_empty_list m = first_two_in m.1 >>= (λ x. text_in x.0 >>= (λ name. items_in x.1 >>= none_of))
   where
     none_of : List Tree → Option (Unit {0})
     none_of [] = Some tt
@@ -239,16 +245,16 @@ is_literal_kind kind = int_le (pos 4) kind && int_le kind (pos 10)
 -- the literal text `[1,[4,"5"]]`
 abbrev pub literal_in : Tree → Option (List ℕ)
 literal_in t =
-    items_in t >>= two_of >>= (λ x.
+    two_in t >>= (λ x.
     fitting is_one (digits_in x.0) >>= (λ one.
-    items_in x.1 >>= two_of >>= (λ y.
+    two_in x.1 >>= (λ y.
     fitting is_literal_kind (number_in y.0) >>= (λ kind.
     number_text_in y.1))))
 
 -- the place of the variable of a field `[name, id]`
 abbrev pub field_in : List (List ℕ) → Tree → Option ℕ
 field_in ids t =
-    items_in t >>= two_of >>= (λ x.
+    two_in t >>= (λ x.
     text_in x.0 >>= (λ name.
     text_in x.1 >>= (λ id.
     position (λ other. bytes_eq other id) ids)))

@@ -7,6 +7,7 @@ mod members;
 mod numbers;
 mod refusal;
 mod types;
+mod variables;
 
 pub use refusal::FirstRefusal;
 pub use types::{
