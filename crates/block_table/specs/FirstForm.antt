@@ -134,6 +134,11 @@ is_empty_list m = first_two_in m.1 >>= (λ x. text_in x.0 >>= (λ name. items_in
     none_of [] = Some tt
     none_of (t ∷ ts) = None
 
+-- lists that are empty, each with its name
+abbrev pub are_empty_lists : List (List ℕ × Tree) → Option (Unit {0})
+are_empty_lists [] = Some tt
+are_empty_lists (m ∷ ms) = is_empty_list m >>= (λ empty. are_empty_lists ms)
+
 -- the members, which only the stage may have
 abbrev pub of_stage : Bool → List (List ℕ × Tree) → Option (List (List ℕ × Tree))
 of_stage true ms = Some ms
@@ -143,8 +148,8 @@ of_stage false (m ∷ ms) = None
 abbrev pub variables_of : Bool → Tree → Option (List (List ℕ × FirstVariable))
 variables_of is_stage t = defaulted members_in [] (codes "variables") t >>= of_stage is_stage >>= each variable_of
 
-abbrev pub lists_of : Bool → Tree → Option (List (Unit {0}))
-lists_of is_stage t = defaulted members_in [] (codes "lists") t >>= of_stage is_stage >>= each is_empty_list
+abbrev pub lists_of : Bool → Tree → Option (Unit {0})
+lists_of is_stage t = defaulted members_in [] (codes "lists") t >>= of_stage is_stage >>= are_empty_lists
 
 abbrev pub some_of : {A : Type 0} → List A → Option (List A)
 some_of [] = None

@@ -2,3 +2,4 @@ pub mod FirstProject
 pub mod FirstOrder
 pub mod FirstForm
 pub mod FirstReads
+pub mod FirstViews

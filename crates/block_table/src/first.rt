@@ -6,6 +6,7 @@
 mod members;
 mod numbers;
 mod refusal;
+mod target;
 mod types;
 mod variables;
 

@@ -2,7 +2,7 @@
 
 ghost use Rattle.std.specs.Prelude.{◌≡◌, map};
 ghost use Rattle.project_json.specs.View.{tree, field};
-ghost use Rattle.block_table.specs.FirstForm.{each, first_two_of, variable_of, is_empty_list, of_stage, variables_of, lists_of, first_two_in};
+ghost use Rattle.block_table.specs.FirstForm.{each, first_two_of, variable_of, is_empty_list, are_empty_lists, of_stage, variables_of, lists_of, first_two_in};
 ghost use Rattle.block_table.specs.FirstReads.{Reads};
 
 use crate::first::members::{defaulted_members, items, text};
@@ -84,4 +84,22 @@ fn empty_list(member: &Member) -> Result<(), FirstRefusal>
     } else {
         Err(FirstRefusal::Shape)
     }
+}
+
+fn empty_lists(members: &[Member]) -> Result<(), FirstRefusal>
+    ensures { Reads (λ u. u) result (are_empty_lists (map field members.now)) }
+{
+    for member in members {
+        empty_list(member)?;
+    }
+    Ok(())
+}
+
+/// Reads the lists of a target, which hold nothing.
+pub(crate) fn lists(is_stage: bool, json: &Json) -> Result<(), FirstRefusal>
+    ensures { Reads (λ u. u) result (lists_of is_stage (tree json.now)) }
+{
+    let members = defaulted_members(json, "lists")?;
+    let members = of_stage(is_stage, members)?;
+    empty_lists(members)
 }

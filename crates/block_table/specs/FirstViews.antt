@@ -1,0 +1,12 @@
+-- Temporary: what the code reads of the first form, as the definitions have it.
+use Rattle.std.specs.Prelude.{map}
+use Rattle.project_json.specs.View.{field}
+use Rattle.block_table.specs.FirstForm as form
+use Rattle.block_table.specs.declared.first.target.Look.{Look}
+use Rattle.block_table.specs.declared.first.target.Sheet.{Sheet}
+
+abbrev pub look_seen : Look → form.Look
+look_seen l = record { visible = l.visible; x = l.x; y = l.y; size = l.size; direction = l.direction }
+
+abbrev pub sheet_seen : Sheet → form.Sheet
+sheet_seen s = record { target = s.target; variables = s.variables.items; blocks = map field s.blocks.now }
