@@ -5,6 +5,7 @@
 
 mod members;
 mod numbers;
+mod places;
 mod refusal;
 mod target;
 mod types;
