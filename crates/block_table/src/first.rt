@@ -3,6 +3,7 @@
 //! A project of this form has green flag scripts of set and change blocks, whole numbers, and
 //! variables of the stage alone. docs/profile.md lists its seven rules.
 
+mod blocks;
 mod members;
 mod numbers;
 mod places;

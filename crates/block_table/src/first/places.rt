@@ -9,10 +9,11 @@ ghost use Rattle.block_table.specs.FirstViews.{place_at};
 use project_json::{Member, Text};
 use std::alloc::{AllocError, Global};
 use std::collections::BTreeMap;
+use std::marker::Model;
 
-/// Places by names, which are looked up in the time of a logarithm.
+// Places by names.
 #[derive(Drop)]
-pub(crate) struct Places<'a> {
+struct Places<'a> {
     places: BTreeMap<&'a str, u32>,
 }
 
@@ -37,34 +38,78 @@ impl<'a> Places<'a> {
         Ok(())
     }
 
-    /// The place of the name.
-    pub(crate) fn place(&self, name: &str) -> Option<u32>
+    // The place of the name.
+    fn place(&self, name: &str) -> Option<u32>
         ensures { result ≡ place_at self.now name.now }
     {
         self.places.get(name).copied()
     }
 }
 
-/// The places of members by their names: of equal names the first.
-pub(crate) fn member_places(alloc: Global, members: &[Member]) -> Result<Places<'_>, AllocError>
-    requires { length members.now < 2 ^ 32 }
-    ensures { IfOk result (λ p. (q : List ℕ) → place_at p q ≡ place_named q (map field members.now)) }
-{
-    let mut places = Places::new(alloc);
-    for (i, member) in members.iter().enumerate() {
-        places.put(member.name().as_str(), i as u32)?;
-    }
-    Ok(places)
+/// Texts with their places. Contracts see the list of them.
+#[derive(Drop)]
+pub(crate) struct Ids<'a> {
+    ids: &'a [Text],
+    places: Places<'a>,
 }
 
-/// The places of texts: of equal texts the first.
-pub(crate) fn text_places(alloc: Global, texts: &[Text]) -> Result<Places<'_>, AllocError>
-    requires { length texts.now < 2 ^ 32 }
-    ensures { IfOk result (λ p. (q : List ℕ) → place_at p q ≡ position (λ t. bytes_eq t q) texts.now) }
-{
-    let mut places = Places::new(alloc);
-    for (i, text) in texts.iter().enumerate() {
-        places.put(text.as_str(), i as u32)?;
+impl<'a> Model for Ids<'a> {
+    ghost use Rattle.std.specs.Prelude.{◌≡◌, ℕ, List, bytes_eq, position};
+    ghost use Rattle.block_table.specs.FirstViews.{place_at};
+
+    ghost Value = { List (List ℕ) };
+
+    ghost view = { λ a. a.ids.now };
+
+    ghost invariant = { λ a. (q : List ℕ) → place_at a.places q ≡ position (λ id. bytes_eq id q) a.ids.now };
+}
+
+impl<'a> Ids<'a> {
+    /// The texts with their places, of which there are few enough.
+    pub(crate) fn new(alloc: Global, ids: &'a [Text]) -> Result<Ids<'a>, AllocError>
+        requires { length ids.now < 2 ^ 32 }
+        ensures { IfOk result (λ i. i ≡ ids.now) }
+    {
+        let mut places = Places::new(alloc);
+        for (i, id) in ids.iter().enumerate() {
+            places.put(id.as_str(), i as u32)?;
+        }
+        Ok(Ids { ids, places })
     }
-    Ok(places)
+
+    /// The place of the first that is this text. It takes the time of a logarithm.
+    pub(crate) fn place(&self, id: &str) -> Option<u32>
+        ensures { result ≡ position (λ other. bytes_eq other id.now) self.now }
+    {
+        self.places.place(id)
+    }
+}
+
+/// Members with their places.
+#[derive(Drop)]
+pub(crate) struct Named<'a> {
+    pub(crate) members: &'a [Member],
+    places: Places<'a>,
+    ghost placed: { (q : List ℕ) → place_at places q ≡ place_named q (map field members.now) },
+}
+
+impl<'a> Named<'a> {
+    /// The members with their places, of which there are few enough.
+    pub(crate) fn new(alloc: Global, members: &'a [Member]) -> Result<Named<'a>, AllocError>
+        requires { length members.now < 2 ^ 32 }
+        ensures { IfOk result (λ n. n.members.now ≡ members.now) }
+    {
+        let mut places = Places::new(alloc);
+        for (i, member) in members.iter().enumerate() {
+            places.put(member.name().as_str(), i as u32)?;
+        }
+        Ok(Named { members, places })
+    }
+
+    /// The place of the first member with the name. It takes the time of a logarithm.
+    pub(crate) fn place(&self, name: &str) -> Option<u32>
+        ensures { result ≡ place_named name.now (map field self.now.members.now) }
+    {
+        self.places.place(name)
+    }
 }

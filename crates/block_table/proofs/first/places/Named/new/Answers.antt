@@ -7,7 +7,7 @@ use Rattle.project_json.specs.Tree.{Tree}
 use Rattle.project_json.specs.View.{field}
 use Rattle.block_table.specs.FirstViews.{place_at}
 use Rattle.block_table.proofs.Positions.{position-take}
-use Rattle.block_table.proofs.first.places.member_places.Goals as goal
+use Rattle.block_table.proofs.first.places.Named.new.Goals as goal
 
 pub loop-i-preserved : goal.loop-i-preserved
 loop-i-preserved c = λ q.
