@@ -1,1 +1,5 @@
+pub mod Each
+pub mod Noted
+pub mod Numbers
+pub mod Positions
 mod Rows

@@ -44,13 +44,14 @@ abbrev pub optional : {A : Type 0} → (Tree → Option A) → A → Option Tree
 optional read default None = Some default
 optional read default (Some m) = read m
 
--- a null reads as the default
-abbrev pub or_null : {A : Type 0} → (Tree → Option A) → A → Tree → Option A
-or_null read default m = if is_null m then Some default else read m
+-- a null is as no member
+abbrev pub present : Option Tree → Option Tree
+present None = None
+present (Some m) = if is_null m then None else Some m
 
 -- a member that has a default: absent and null are the default
 abbrev pub defaulted : {A : Type 0} → (Tree → Option A) → A → List ℕ → Tree → Option A
-defaulted read default name t = optional (or_null read default) default (member_of t name)
+defaulted read default name t = optional read default (present (member_of t name))
 
 -- a member that may be absent, and is not null
 abbrev pub given : {A : Type 0} → (Tree → Option A) → A → List ℕ → Tree → Option A
@@ -113,19 +114,30 @@ abbrev pub first_two_of : List Tree → Option (Tree × Tree)
 first_two_of (a ∷ b ∷ ts) = Some (a, b)
 first_two_of ts = None
 
+abbrev pub two_in : Tree → Option (Tree × Tree)
+two_in t = items_in t >>= two_of
+
+abbrev pub first_two_in : Tree → Option (Tree × Tree)
+first_two_in t = items_in t >>= first_two_of
+
 -- Variables, lists, costumes
 
 -- the id of a variable, and the variable
 abbrev pub variable_of : List ℕ × Tree → Option (List ℕ × FirstVariable)
-variable_of m = items_in m.1 >>= first_two_of >>= (λ x. text_in x.0 >>= (λ name. value_in x.1 >>= (λ value. Some (m.0, record { name = name; value = value }))))
+variable_of m = first_two_in m.1 >>= (λ x. text_in x.0 >>= (λ name. value_in x.1 >>= (λ value. Some (m.0, record { name = name; value = value }))))
 
 -- a list that is empty, with its name
 abbrev pub is_empty_list : List ℕ × Tree → Option (Unit {0})
-is_empty_list m = items_in m.1 >>= first_two_of >>= (λ x. text_in x.0 >>= (λ name. items_in x.1 >>= none_of))
+is_empty_list m = first_two_in m.1 >>= (λ x. text_in x.0 >>= (λ name. items_in x.1 >>= none_of))
   where
     none_of : List Tree → Option (Unit {0})
     none_of [] = Some tt
     none_of (t ∷ ts) = None
+
+-- lists that are empty, each with its name
+abbrev pub are_empty_lists : List (List ℕ × Tree) → Option (Unit {0})
+are_empty_lists [] = Some tt
+are_empty_lists (m ∷ ms) = is_empty_list m >>= (λ empty. are_empty_lists ms)
 
 -- the members, which only the stage may have
 abbrev pub of_stage : Bool → List (List ℕ × Tree) → Option (List (List ℕ × Tree))
@@ -136,8 +148,8 @@ of_stage false (m ∷ ms) = None
 abbrev pub variables_of : Bool → Tree → Option (List (List ℕ × FirstVariable))
 variables_of is_stage t = defaulted members_in [] (codes "variables") t >>= of_stage is_stage >>= each variable_of
 
-abbrev pub lists_of : Bool → Tree → Option (List (Unit {0}))
-lists_of is_stage t = defaulted members_in [] (codes "lists") t >>= of_stage is_stage >>= each is_empty_list
+abbrev pub lists_of : Bool → Tree → Option (Unit {0})
+lists_of is_stage t = defaulted members_in [] (codes "lists") t >>= of_stage is_stage >>= are_empty_lists
 
 abbrev pub some_of : {A : Type 0} → List A → Option (List A)
 some_of [] = None
@@ -238,16 +250,16 @@ is_literal_kind kind = int_le (pos 4) kind && int_le kind (pos 10)
 -- the literal text `[1,[4,"5"]]`
 abbrev pub literal_in : Tree → Option (List ℕ)
 literal_in t =
-    items_in t >>= two_of >>= (λ x.
+    two_in t >>= (λ x.
     fitting is_one (digits_in x.0) >>= (λ one.
-    items_in x.1 >>= two_of >>= (λ y.
+    two_in x.1 >>= (λ y.
     fitting is_literal_kind (number_in y.0) >>= (λ kind.
     number_text_in y.1))))
 
 -- the place of the variable of a field `[name, id]`
 abbrev pub field_in : List (List ℕ) → Tree → Option ℕ
 field_in ids t =
-    items_in t >>= two_of >>= (λ x.
+    two_in t >>= (λ x.
     text_in x.0 >>= (λ name.
     text_in x.1 >>= (λ id.
     position (λ other. bytes_eq other id) ids)))

@@ -1,3 +1,5 @@
 pub mod FirstProject
 pub mod FirstOrder
 pub mod FirstForm
+pub mod FirstReads
+pub mod FirstViews

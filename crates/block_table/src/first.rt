@@ -3,8 +3,16 @@
 //! A project of this form has green flag scripts of set and change blocks, whole numbers, and
 //! variables of the stage alone. docs/profile.md lists its seven rules.
 
+mod blocks;
+mod members;
+mod numbers;
+mod places;
+mod refusal;
+mod target;
 mod types;
+mod variables;
 
+pub use refusal::FirstRefusal;
 pub use types::{
     FirstBlock, FirstBlocks, FirstCode, FirstMonitor, FirstMonitors, FirstOrder, FirstProject,
     FirstTarget, FirstTargets, FirstVariable, FirstVariables,

@@ -7,7 +7,7 @@ mod texts;
 
 pub use first::{
     FirstBlock, FirstBlocks, FirstCode, FirstMonitor, FirstMonitors, FirstOrder, FirstProject,
-    FirstTarget, FirstTargets, FirstVariable, FirstVariables,
+    FirstRefusal, FirstTarget, FirstTargets, FirstVariable, FirstVariables,
 };
 pub use style::Style;
 pub use texts::Texts;

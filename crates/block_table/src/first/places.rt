@@ -1,0 +1,115 @@
+//! The places of names, by name.
+
+ghost use Rattle.std.specs.Prelude.{◌≡◌, ◌<◌, ◌^◌, ℕ, List, OnOk, IfOk, Option, Some, None, bytes_eq, length, map, position, if◌then◌else◌};
+ghost use Rattle.std.specs.Option.{option_or};
+ghost use Rattle.project_json.specs.View.{field};
+ghost use Rattle.block_table.specs.FirstForm.{place_named};
+ghost use Rattle.block_table.specs.FirstViews.{place_at};
+
+use project_json::{Member, Text};
+use std::alloc::{AllocError, Global};
+use std::collections::BTreeMap;
+use std::marker::Model;
+
+// Places by names.
+#[derive(Drop)]
+struct Places<'a> {
+    places: BTreeMap<&'a str, u32>,
+}
+
+impl<'a> Places<'a> {
+    fn new(alloc: Global) -> Places<'a>
+        ensures { (q : List ℕ) → place_at result q ≡ None }
+    {
+        Places {
+            places: BTreeMap::new(alloc),
+        }
+    }
+
+    // Notes the place of a name that has none yet.
+    fn put(&mut self, name: &'a str, place: u32) -> Result<(), AllocError>
+        ensures { OnOk result ((q : List ℕ) →
+            place_at self.new q
+            ≡ option_or (place_at self.old q) (if bytes_eq name.now q then Some place else None)) }
+    {
+        if !self.places.contains_key(name) {
+            self.places.insert(name, place)?;
+        }
+        Ok(())
+    }
+
+    // The place of the name.
+    fn place(&self, name: &str) -> Option<u32>
+        ensures { result ≡ place_at self.now name.now }
+    {
+        self.places.get(name).copied()
+    }
+}
+
+/// Texts with their places. Contracts see the list of them.
+#[derive(Drop)]
+pub(crate) struct Ids<'a> {
+    ids: &'a [Text],
+    places: Places<'a>,
+}
+
+impl<'a> Model for Ids<'a> {
+    ghost use Rattle.std.specs.Prelude.{◌≡◌, ℕ, List, bytes_eq, position};
+    ghost use Rattle.block_table.specs.FirstViews.{place_at};
+
+    ghost Value = { List (List ℕ) };
+
+    ghost view = { λ a. a.ids.now };
+
+    ghost invariant = { λ a. (q : List ℕ) → place_at a.places q ≡ position (λ id. bytes_eq id q) a.ids.now };
+}
+
+impl<'a> Ids<'a> {
+    /// The texts with their places, of which there are few enough.
+    pub(crate) fn new(alloc: Global, ids: &'a [Text]) -> Result<Ids<'a>, AllocError>
+        requires { length ids.now < 2 ^ 32 }
+        ensures { IfOk result (λ i. i ≡ ids.now) }
+    {
+        let mut places = Places::new(alloc);
+        for (i, id) in ids.iter().enumerate() {
+            places.put(id.as_str(), i as u32)?;
+        }
+        Ok(Ids { ids, places })
+    }
+
+    /// The place of the first that is this text. It takes the time of a logarithm.
+    pub(crate) fn place(&self, id: &str) -> Option<u32>
+        ensures { result ≡ position (λ other. bytes_eq other id.now) self.now }
+    {
+        self.places.place(id)
+    }
+}
+
+/// Members with their places.
+#[derive(Drop)]
+pub(crate) struct Named<'a> {
+    pub(crate) members: &'a [Member],
+    places: Places<'a>,
+    ghost placed: { (q : List ℕ) → place_at places q ≡ place_named q (map field members.now) },
+}
+
+impl<'a> Named<'a> {
+    /// The members with their places, of which there are few enough.
+    pub(crate) fn new(alloc: Global, members: &'a [Member]) -> Result<Named<'a>, AllocError>
+        requires { length members.now < 2 ^ 32 }
+        ensures { IfOk result (λ n. n.members.now ≡ members.now) }
+    {
+        let mut places = Places::new(alloc);
+        for (i, member) in members.iter().enumerate() {
+            places.put(member.name().as_str(), i as u32)?;
+        }
+        Ok(Named { members, places })
+    }
+
+    /// The place of the first member with the name. It takes the time of a logarithm.
+    pub(crate) fn place(&self, name: &str) -> Option<u32>
+        ensures { result ≡ place_named name.now (map field self.now.members.now) }
+    {
+        self.places.place(name)
+    }
+}
