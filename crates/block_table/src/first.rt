@@ -12,6 +12,7 @@ mod target;
 mod types;
 mod variables;
 
+pub use numbers::whole_number;
 pub use refusal::FirstRefusal;
 pub use types::{
     FirstBlock, FirstBlocks, FirstCode, FirstMonitor, FirstMonitors, FirstOrder, FirstProject,

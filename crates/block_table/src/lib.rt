@@ -7,7 +7,7 @@ mod texts;
 
 pub use first::{
     FirstBlock, FirstBlocks, FirstCode, FirstMonitor, FirstMonitors, FirstOrder, FirstProject,
-    FirstRefusal, FirstTarget, FirstTargets, FirstVariable, FirstVariables,
+    FirstRefusal, FirstTarget, FirstTargets, FirstVariable, FirstVariables, whole_number,
 };
 pub use style::Style;
 pub use texts::Texts;

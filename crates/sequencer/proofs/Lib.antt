@@ -1,1 +1,8 @@
 mod Rows
+pub mod Values
+pub mod Scripts
+pub mod Frames
+pub mod Orders
+pub mod Flags
+pub mod Steps
+pub mod Runs

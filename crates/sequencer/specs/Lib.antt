@@ -5,4 +5,7 @@ pub mod World
 pub mod Slice
 pub mod Pass
 pub mod Frame
+pub mod FirstThreads
 pub mod FirstRun
+pub mod FirstValue
+pub mod Executed

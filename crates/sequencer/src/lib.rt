@@ -2,5 +2,7 @@
 #![tactic(auto)]
 
 mod budget;
+mod first;
 
 pub use budget::Budget;
+pub use first::{FirstNumber, FirstRun, FirstThread, FirstValue};
