@@ -2,3 +2,5 @@ mod Rows
 pub mod Pieces
 pub mod Numerals
 pub mod LineWords
+pub mod Texts
+pub mod TargetLines

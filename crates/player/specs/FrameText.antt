@@ -73,14 +73,22 @@ abbrev pub monitor_of_place : Project → World → Option ℕ → List ℕ
 monitor_of_place p w None = []
 monitor_of_place p w (Some v) = monitor_line (slice_get p.variables v) (slice_get w.values v)
 
+-- a monitor that is not shown prints nothing
+abbrev pub shown_monitor : Project → World → FirstMonitor → List ℕ
+shown_monitor p w m = if m.visible then monitor_of_place p w m.variable else []
+
 abbrev pub monitor_lines : Project → World → List FirstMonitor → List ℕ
 monitor_lines p w [] = []
-monitor_lines p w (m ∷ ms) = (if m.visible then monitor_of_place p w m.variable else []) ++ monitor_lines p w ms
+monitor_lines p w (m ∷ ms) = shown_monitor p w m ++ monitor_lines p w ms
 
--- the frame's number, the clock in milliseconds and the random words drawn; the stage and the sprites; the monitors
+-- the frame's number, the clock in milliseconds and the random words drawn, of which there are none yet
+abbrev pub head_line : ℕ → ℕ → List ℕ
+head_line frame clock = line (codes "frame" ∷ decimal frame ∷ codes "clock" ∷ decimal clock ∷ codes "words" ∷ codes "0" ∷ [])
+
+-- the first line, the stage and the sprites, the monitors, the last line
 abbrev pub frame_text : Project → World → List ℕ
 frame_text p w =
-    line (codes "frame" ∷ decimal w.frame ∷ codes "clock" ∷ decimal w.clock ∷ codes "words" ∷ codes "0" ∷ [])
+    head_line w.frame w.clock
     ++ target_lines p 0 (executable_order p.targets)
     ++ monitor_lines p w p.monitors
     ++ line (codes "end" ∷ [])

@@ -1,6 +1,7 @@
 pub mod Words
 pub mod Lines
 pub mod FrameText
+pub mod SpriteLine
 pub mod Output
 pub mod Promise
 pub mod Told

@@ -40,13 +40,7 @@ pub fn whole_up_to(word: &str, most: u64) -> Option<u64>
         return None;
     }
     match word.parse::<u64>() {
-        Ok(number) => {
-            if number <= most {
-                Some(number)
-            } else {
-                None
-            }
-        }
+        Ok(number) => { if number <= most { Some(number) } else { None } }
         Err(_) => None,
     }
 }
