@@ -12,7 +12,7 @@ use Rattle.project_json.specs.declared.json.Members.{Members}
 abbrev pub json_step : Json-F Tree Trees (List ℕ × Tree) Fields → Tree
 json_step Json-F.Null = null
 json_step (Json-F.Truth b) = truth b
-json_step (Json-F.Number n) = number n.digits
+json_step (Json-F.Number n) = number n
 json_step (Json-F.Text t) = text t
 json_step (Json-F.List ts) = list ts
 json_step (Json-F.Object ms) = object ms
