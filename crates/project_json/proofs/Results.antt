@@ -1,9 +1,9 @@
 -- What the reader gives, said by the grammar.
-use Rattle.std.proofs.Common.{◌≡◌, ℕ, List, length, Result, Ok, Err, sym, ◌∙◌, ◌≤◌}
+use Rattle.std.proofs.Common.{◌≡◌, ℕ, List, length, Ok, Err, ◌≤◌}
 use Rattle.project_json.specs.Tree.{Tree}
 use Rattle.project_json.specs.Grammar.{IsJson}
 use Rattle.project_json.specs.Size.{size_of}
-use Rattle.project_json.specs.Reading.{Fault, syntax, text_of}
+use Rattle.project_json.specs.Reading.{Fault, text_of}
 use Rattle.project_json.proofs.Sound.{text_is}
 use Rattle.project_json.proofs.Sizes.{IsJson-size}
 use Rattle.project_json.proofs.Complete.{text_again}

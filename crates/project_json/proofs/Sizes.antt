@@ -1,7 +1,7 @@
 -- A value holds no more members and items than it takes bytes.
-use Rattle.std.proofs.Common.{◌≡◌, ℕ, suc, ◌+◌, ◌≤◌, Bool, true, false, cond, List, [], ◌∷◌, ◌++◌, length, refl, sym, ap, ◌∙◌, subst, arith, length-append}
+use Rattle.std.proofs.Common.{ℕ, ◌+◌, ◌≤◌, true, false, cond, List, [], ◌∷◌, length, ap, arith, length-append}
 use Rattle.std.specs.Str.{bytes_eq}
-use Rattle.project_json.specs.Tree.{Tree, list, object, trees_of, fields_of}
+use Rattle.project_json.specs.Tree.{Tree, trees_of, fields_of}
 use Rattle.project_json.specs.Size.{size_of, items_size, members_size}
 use Rattle.project_json.specs.Grammar.{Blanks, Chars, no_chars, char_and, put, Value, null_here, true_here, false_here, number_here, text_here, no_items_here, items_here, no_members_here, members_here, Spaced, spaced, Items, last_item, more_items, Members, last_member, more_members, Name, name_here, IsJson}
 

@@ -1,5 +1,5 @@
 -- The tree that a value stands for.
-use Rattle.std.specs.Prelude.{ℕ, List, map}
+use Rattle.std.specs.Prelude.{ℕ, List}
 use Rattle.project_json.specs.Tree.{Tree, null, truth, number, text, list, object, Trees, Fields, trees_of, fields_of}
 use Rattle.project_json.specs.declared.json.Json.{Json}
 use Rattle.project_json.specs.declared.json.Json.TheOpen.{Json-F, Items-F, Member-F, Members-F}
