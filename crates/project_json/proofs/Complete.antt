@@ -1,10 +1,10 @@
 -- What is in the grammar is read.
-use Rattle.std.proofs.Common.{◌≡◌, ◌≢◌, ℕ, zero, suc, ◌+◌, ◌<◌, ◌≤◌, Bool, true, false, cond, List, [], ◌∷◌, ◌++◌, length, Result, Ok, Err, refl, sym, ap, ◌∙◌, subst, arith, length-append}
+use Rattle.std.proofs.Common.{◌≡◌, ◌≢◌, ℕ, zero, suc, ◌<◌, ◌≤◌, Bool, true, false, cond, List, [], ◌∷◌, ◌++◌, length, Ok, Err, refl, sym, ap, ◌∙◌, subst, arith}
 use Rattle.std.specs.Prelude.{◌==◌}
 use Rattle.std.proofs.lemmas.Bool.{false_from_ne_true}
 use Rattle.std.proofs.lemmas.Bool.Decides.{nat_tests, Decides-eqb}
 use Rattle.project_json.specs.Tree.{Tree, number, text, list, object, trees_of, fields_of}
-use Rattle.project_json.specs.Grammar.{AllTrue, IsInt, lone_zero, nonzero_and, IsNumber, int_alone, minus_and, Blanks, is_blank, is_digit, is_nonzero_digit, is_unescaped, Chars, no_chars, char_and, put, Value, null_here, true_here, false_here, number_here, text_here, no_items_here, items_here, no_members_here, members_here, Spaced, spaced, Items, last_item, more_items, Members, last_member, more_members, Name, name_here, json}
+use Rattle.project_json.specs.Grammar.{AllTrue, IsInt, lone_zero, nonzero_and, IsNumber, int_alone, minus_and, Blanks, is_blank, is_digit, is_nonzero_digit, is_unescaped, Chars, no_chars, char_and, Value, null_here, true_here, false_here, number_here, text_here, no_items_here, items_here, no_members_here, members_here, Spaced, spaced, Items, last_item, more_items, Members, last_member, more_members, Name, name_here, IsJson}
 use Rattle.project_json.specs.Reading.{syntax, Read, ◌>>=◌, skip, after_word, after_byte, digits, after_digits, int_at, digits_at, number_at, with_char, chars_at, value_with, mark_at, item_at, with_items, items_then, items_at, list_of, name_at, member_at, members_then, members_at, object_of, value_at, list_below, object_below, end_of, text_of}
 use Rattle.project_json.proofs.Lists.{value_at-is}
 use Rattle.project_json.proofs.Sizes.{blanks-le, chars-le, value-le}
@@ -262,11 +262,11 @@ mutual
       ∙ members_again is k (let x = skip-le next in let y = skip-le mid in let z = name-short a in let w = r.3 in omega (arith, x, y, z, w))
 
 -- a JSON text is read
-pub text_again : (n : ℕ) (bs : List ℕ) (t : Tree) → json n bs t → text_of n bs ≡ Ok t
+pub text_again : (n : ℕ) (bs : List ℕ) (t : Tree) → IsJson n bs t → text_of n bs ≡ Ok t
 text_again n bs t p =
     let r = spaced_again p tt tt in
     ap (λ r. r >>= (λ x. end_of x.0 (skip x.1))) r.1 ∙ ap (end_of t) r.2
 
 -- a text is read as one tree
-pub json-one_tree : (n : ℕ) (bs : List ℕ) (t u : Tree) → json n bs t → json n bs u → t ≡ u
-json-one_tree n bs t u p q = let a = text_again n bs t p in let b = text_again n bs u q in cc
+pub IsJson-one_tree : (n : ℕ) (bs : List ℕ) (t u : Tree) → IsJson n bs t → IsJson n bs u → t ≡ u
+IsJson-one_tree n bs t u p q = let a = text_again n bs t p in let b = text_again n bs u q in cc

@@ -8,3 +8,4 @@ pub mod Sizes
 pub mod Complete
 pub mod Results
 pub mod Rows
+pub mod Plain

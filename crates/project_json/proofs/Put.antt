@@ -1,9 +1,13 @@
 -- Setting a member by the place of its name.
-use Rattle.std.proofs.Common.{◌≡◌, ℕ, zero, suc, ◌<◌, ◌⊎◌, Bool, true, false, cond, List, [], ◌∷◌, ◌++◌, length, set, get_or, Option, None, Some, refl, sym, ap, ◌∙◌, subst, inl, inr, ⊎_elim, arith}
+use Rattle.std.proofs.Common.{◌≡◌, ℕ, zero, suc, ◌<◌, ◌⊎◌, Bool, true, false, cond, List, [], ◌∷◌, ◌++◌, length, set, get_or, map, Option, None, Some, String, refl, sym, ap, ◌∙◌, subst, inl, inr, ⊎_elim, arith}
 use Rattle.std.specs.Str.{bytes_eq}
 use Rattle.std.specs.Option.{option_map}
 use Rattle.std.proofs.lemmas.Slice.Eq.{bytes_eq-Decides}
+use Rattle.std.specs.BTreeMap.{BTreeMap, get_by_text}
+use Rattle.std.proofs.lemmas.List.{map-set, get_or-map, map_push}
 use Rattle.project_json.specs.Tree.{Tree}
+use Rattle.project_json.specs.View.{field}
+use Rattle.project_json.specs.declared.json.Member.{Member}
 use Rattle.project_json.specs.Grammar.{put}
 use Rattle.project_json.specs.Places.{place_of}
 
@@ -54,3 +58,15 @@ place_of-push q name t (m ∷ ms) h =
       | true ↦ λ e. ap (λ b. cond b (Some 0) (Some (suc (length ms)))) (subst (λ x. bytes_eq m.0 x ≡ false) ((bytes_eq-Decides name q).0 e) a.0)
       | false ↦ λ e. refl
     ] refl
+
+-- what a map of places finds under a text is the place of the name
+pub place_of-found : {Y : Type 0} (places : BTreeMap (String Y) ℕ) (ms : List (List ℕ × Tree)) → ((q : List ℕ) → get_by_text places q ≡ place_of q ms) → (name text : List ℕ) (o : Option ℕ) → text ≡ name → get_by_text places text ≡ o → place_of name ms ≡ o
+place_of-found places ms indexed name text o e h = sym (indexed name) ∙ ap (get_by_text places) (sym e) ∙ h
+
+-- the fields of members when one is set
+pub map-set_value : (ms : List Member) (i : ℕ) (m new : Member) (t : Tree) → i < length ms → m ≡ get_or ms i m → field new ≡ ((field m).0, t) → map field (set ms i new) ≡ set (map field ms) i ((get_or (map field ms) i (field m)).0, t)
+map-set_value ms i m new t within is e = map-set field ms i new ∙ ap (set (map field ms) i) (e ∙ ap (λ (k : List ℕ × Tree). (k.0, t)) (ap field is ∙ sym (get_or-map field ms i m (field m) within)))
+
+-- the fields of members and one more
+pub map-push_member : (ms : List Member) (new : Member) (m : List ℕ × Tree) → field new ≡ m → map field (ms ++ new ∷ []) ≡ map field ms ++ m ∷ []
+map-push_member ms new m e = map_push field ms new ∙ ap (λ k. map field ms ++ k ∷ []) e

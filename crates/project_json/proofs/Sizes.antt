@@ -1,9 +1,9 @@
 -- A value holds no more members and items than it takes bytes.
-use Rattle.std.proofs.Common.{◌≡◌, ℕ, suc, ◌+◌, ◌≤◌, Bool, true, false, cond, List, [], ◌∷◌, ◌++◌, length, refl, sym, ap, ◌∙◌, subst, arith, length-append}
+use Rattle.std.proofs.Common.{ℕ, ◌+◌, ◌≤◌, true, false, cond, List, [], ◌∷◌, length, ap, arith, length-append}
 use Rattle.std.specs.Str.{bytes_eq}
-use Rattle.project_json.specs.Tree.{Tree, list, object, trees_of, fields_of}
+use Rattle.project_json.specs.Tree.{Tree, trees_of, fields_of}
 use Rattle.project_json.specs.Size.{size_of, items_size, members_size}
-use Rattle.project_json.specs.Grammar.{Blanks, Chars, no_chars, char_and, put, Value, null_here, true_here, false_here, number_here, text_here, no_items_here, items_here, no_members_here, members_here, Spaced, spaced, Items, last_item, more_items, Members, last_member, more_members, Name, name_here, json}
+use Rattle.project_json.specs.Grammar.{Blanks, Chars, no_chars, char_and, put, Value, null_here, true_here, false_here, number_here, text_here, no_items_here, items_here, no_members_here, members_here, Spaced, spaced, Items, last_item, more_items, Members, last_member, more_members, Name, name_here, IsJson}
 
 pub blanks-le : {old new : List ℕ} → Blanks old new → length new ≤ length old
 blanks-le {new = new} g = let e = ap length g.2 in omega (arith, e, length-append g.0 new)
@@ -52,5 +52,5 @@ pub value-le : {n : ℕ} {t : Tree} {old new : List ℕ} → Value n t old new �
 value-le {t = t} v = let a = value-size v in omega (arith, a)
 
 -- a tree holds no more members and items than its text has bytes
-pub json-size : (n : ℕ) (bs : List ℕ) (t : Tree) → json n bs t → size_of t ≤ length bs
-json-size n bs t p = let a = spaced-size p in omega (arith, a)
+pub IsJson-size : (n : ℕ) (bs : List ℕ) (t : Tree) → IsJson n bs t → size_of t ≤ length bs
+IsJson-size n bs t p = let a = spaced-size p in omega (arith, a)

@@ -1,9 +1,9 @@
 -- What is read is in the grammar.
-use Rattle.std.proofs.Common.{◌≡◌, ◌≢◌, ℕ, zero, suc, ◌⊎◌, Bool, true, false, cond, List, [], ◌∷◌, ◌++◌, length, Result, Ok, Err, refl, sym, ap, ◌∙◌, subst, append_assoc, inl, inr, ⊎_elim, arith}
-use Rattle.std.specs.Prelude.{◌==◌, codes, IfOk}
-use Rattle.std.proofs.lemmas.Bool.Decides.{nat_tests, Decides-eqb}
+use Rattle.std.proofs.Common.{◌≡◌, ℕ, zero, suc, ◌⊎◌, Bool, true, false, cond, List, [], ◌∷◌, ◌++◌, length, Result, Ok, Err, refl, sym, ap, ◌∙◌, subst, append_assoc, inl, inr, ⊎_elim}
+use Rattle.std.specs.Prelude.{◌==◌, codes}
+use Rattle.std.proofs.lemmas.Bool.Decides.{Decides-eqb}
 use Rattle.project_json.specs.Tree.{Tree, null, truth, number, text, list, object, trees_of, fields_of}
-use Rattle.project_json.specs.Grammar.{AllTrue, IsInt, lone_zero, nonzero_and, IsNumber, int_alone, minus_and, Blanks, is_blank, is_digit, is_nonzero_digit, is_unescaped, Chars, no_chars, char_and, put, Value, null_here, true_here, false_here, number_here, text_here, no_items_here, items_here, no_members_here, members_here, Spaced, spaced, Items, last_item, more_items, Members, last_member, more_members, Name, name_here, json}
+use Rattle.project_json.specs.Grammar.{AllTrue, IsInt, lone_zero, nonzero_and, IsNumber, int_alone, minus_and, Blanks, is_blank, is_digit, is_nonzero_digit, is_unescaped, Chars, no_chars, char_and, put, Value, null_here, true_here, false_here, number_here, text_here, no_items_here, items_here, no_members_here, members_here, Spaced, spaced, Items, last_item, more_items, Members, last_member, more_members, Name, name_here, IsJson}
 use Rattle.project_json.specs.Reading.{Fault, syntax, Read, ◌>>=◌, skip, after_word, after_byte, digits, after_digits, int_at, digits_at, with_char, chars_at, value_with, mark_at, item_at, with_items, items_then, items_at, list_of, list_at, name_at, member_at, members_then, members_at, object_of, object_at, too_deep_at, value_at, end_of, text_of}
 use Rattle.project_json.proofs.Ascii.{AllTrue-append}
 
@@ -210,7 +210,7 @@ end_is t u [] h = (ok_same t u h, refl)
 end_is t u (b ∷ bs) h = absurd (cc)
 
 -- what is read is a JSON text of that tree
-pub text_is : (n : ℕ) (bs : List ℕ) (t : Tree) → text_of n bs ≡ Ok t → json n bs t
+pub text_is : (n : ℕ) (bs : List ℕ) (t : Tree) → text_of n bs ≡ Ok t → IsJson n bs t
 text_is n bs t h =
     let a = bind_ok (value_at n (skip bs)) (λ x. end_of x.0 (skip x.1)) t h in
     let e = end_is a.0.0 t (skip a.0.1) a.2 in

@@ -84,5 +84,5 @@ mutual
     name_here : {name old new : List ℕ} (begin end : List ℕ) → Blanks old (34 ∷ begin) → Chars name begin end → Blanks end (58 ∷ new) → Name name old new
 
 -- the bytes are a JSON text (RFC 8259 section 2) that stands for the tree, nested at most n deep
-abbrev pub json : ℕ → List ℕ → Tree → Type 0
-json n bytes t = Spaced n t bytes []
+abbrev pub IsJson : ℕ → List ℕ → Tree → Type 0
+IsJson n bytes t = Spaced n t bytes []

@@ -1,7 +1,6 @@
 -- How the reader goes, as functions on lists: a part and the bytes after it, or the first fault and how many bytes are left there.
 -- Private functions alone cite these. What `read` promises is said by the grammar.
-use Rattle.std.specs.Prelude.{◌≡◌, ℕ, zero, suc, List, [], ◌∷◌, ◌++◌, length, Bool, true, false, ◌==◌, if◌then◌else◌, Option, None, Some, Result, Ok, Err, codes, bytes_eq}
-use Rattle.std.specs.Option.{option_map}
+use Rattle.std.specs.Prelude.{◌≡◌, ℕ, zero, suc, List, [], ◌∷◌, ◌++◌, length, Bool, true, false, ◌==◌, if◌then◌else◌, Result, Ok, Err, codes}
 use Rattle.project_json.specs.Tree.{Tree, null, truth, number, text, list, object, trees_of, fields_of}
 use Rattle.project_json.specs.Grammar.{is_blank, is_digit, is_nonzero_digit, is_unescaped, put}
 use Rattle.project_json.specs.declared.stop.Stop.{Stop}

@@ -6,8 +6,7 @@ ghost use Rattle.project_json.specs.Reading.{Gives, digits, after_digits, int_at
 
 use crate::json::Json;
 use crate::stop::Stop;
-use crate::strings::text_from;
-use crate::text::Decimal;
+use crate::text::{Decimal, Text};
 use std::alloc::Global;
 
 // How many digits stand at the front.
@@ -59,6 +58,6 @@ pub fn number_of(alloc: Global, bytes: &[u8]) -> Result<(Json, &[u8]), Stop>
     ensures { Gives (λ x. (tree x.0, x.1.now)) result (number_at bytes.now) }
 {
     let len = number_len(bytes)?;
-    let digits = text_from(alloc, &bytes[..len])?;
+    let digits = Text::from_utf8(alloc, &bytes[..len])?;
     Ok((Json::Number(Decimal::new(digits)), &bytes[len..]))
 }

@@ -1,7 +1,7 @@
 //! Reads JSON texts.
 
 ghost use Rattle.std.specs.Prelude.{◌≡◌, ◌≤◌, map, [], length, Result, IfOk, IfErr, MatchResult};
-ghost use Rattle.project_json.specs.Grammar.{json};
+ghost use Rattle.project_json.specs.Grammar.{IsJson};
 ghost use Rattle.project_json.specs.Reading.{Gives, value_with, value_at, list_below, item_at, items_at, object_below, member_at, members_at, text_of};
 ghost use Rattle.project_json.specs.Refusal.{IsCause};
 ghost use Rattle.project_json.specs.Size.{size_of};
@@ -182,9 +182,9 @@ fn text(alloc: Global, bytes: &[u8]) -> Result<Json, Stop>
 /// value. `Syntax` comes exactly where the bytes are no such text.
 pub fn read(alloc: Global, bytes: &[u8]) -> Result<Json, JsonRefusal>
     // What is read is a JSON text of that tree.
-    ensures found { IfOk result (λ t. json 256 bytes.now (tree t)) }
+    ensures found { IfOk result (λ t. IsJson 256 bytes.now (tree t)) }
     // A JSON text is read as its tree, unless memory runs out.
-    ensures only { (t : Tree) → json 256 bytes.now t → MatchResult result (λ found. tree found ≡ t) (λ e. e ≡ JsonRefusal.NoMemory) }
+    ensures only { (t : Tree) → IsJson 256 bytes.now t → MatchResult result (λ read. tree read ≡ t) (λ e. e ≡ JsonRefusal.NoMemory) }
     ensures refused { IfErr result (IsCause 256 bytes.now) }
     ensures small { IfOk result (λ t. size_of (tree t) ≤ length bytes.now) }
 {

@@ -1,14 +1,13 @@
 //! Strings and names (RFC 8259 sections 7 and 4).
 
 ghost use Rattle.std.specs.Prelude.{◌≡◌, ◌+◌, ◌<◌, length, take, drop, IfOk};
-ghost use Rattle.std.specs.Str.{IsUtf8};
 ghost use Rattle.project_json.specs.Grammar.{AllTrue, is_unescaped};
 ghost use Rattle.project_json.specs.Reading.{Gives, chars_at, name_at};
 
 use crate::scanning::{after_byte, skip};
 use crate::stop::Stop;
 use crate::text::Text;
-use std::alloc::{AllocError, Global};
+use std::alloc::Global;
 
 fn is_unescaped(b: u8) -> bool
     ensures { result ≡ is_unescaped b }
@@ -35,21 +34,13 @@ fn char_count(bytes: &[u8]) -> Result<usize, Stop>
     Err(Stop::Syntax { left: 0 })
 }
 
-/// A text of these bytes.
-pub fn text_from(alloc: Global, bytes: &[u8]) -> Result<Text, AllocError>
-    requires { IsUtf8 bytes.now }
-    ensures { IfOk result (λ t. t ≡ bytes.now) }
-{
-    Ok(Text::from_string(String::from_utf8_lossy(alloc, bytes)?))
-}
-
 /// The characters behind a quotation mark up to the one that ends them, and the bytes after it.
 #[tactic(auto, using(crate::proofs::Ascii::ascii_rules))]
 pub fn chars_of(alloc: Global, bytes: &[u8]) -> Result<(Text, &[u8]), Stop>
     ensures { Gives (λ x. (x.0, x.1.now)) result (chars_at bytes.now) }
 {
     let count = char_count(bytes)?;
-    let text = text_from(alloc, &bytes[..count])?;
+    let text = Text::from_utf8(alloc, &bytes[..count])?;
     Ok((text, &bytes[count + 1..]))
 }
 

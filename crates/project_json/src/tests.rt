@@ -85,6 +85,19 @@ fn refuses_what_is_no_plain_text(rt: HostRuntime) {
 }
 
 #[test]
+fn says_why_it_refuses(rt: HostRuntime) -> Result<(), Fail> {
+    let refusal = read(rt.alloc(), b"[1,]").err().ok_or("read")?;
+    let said = format!(in rt.alloc(); "{refusal}")?;
+    assert_eq!(rt;
+        said.as_str(),
+        "no JSON text: reading stopped after 3 bytes"
+    );
+    let said = format!(in rt.alloc(); "{}", JsonRefusal::NoMemory)?;
+    assert_eq!(rt; said.as_str(), "out of memory");
+    Ok(())
+}
+
+#[test]
 fn nests_256_deep(rt: HostRuntime) -> Result<(), Fail> {
     let deepest = brackets(rt.alloc(), 256)?;
     assert!(rt; read(rt.alloc(), deepest.as_slice()).is_ok());
