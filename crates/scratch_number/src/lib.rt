@@ -1,0 +1,11 @@
+//! The numbers of the profile: fixed-point numbers in whole millionths with two infinities and
+//! not-a-number. Each operation is defined for all arguments; none takes memory and none fails.
+#![tactic(auto)]
+
+mod arithmetic;
+mod number;
+mod whole;
+
+pub use arithmetic::{add, div, modulo, mul, sub};
+pub use number::{Num, Raw, negated, of_millionths, of_whole, order};
+pub use whole::{abs, ceiling, floor, round};
