@@ -1,1 +1,3 @@
 pub mod Remainders
+pub mod Roots
+pub mod Sines

@@ -1,5 +1,5 @@
 -- Sums, products, quotients and remainders of numbers, and their roundings to whole numbers.
-use Rattle.std.specs.Prelude.{ℕ, zero, suc, ◌+◌, ◌*◌, ℤ, pos, negsuc, ◌+ℤ◌, ◌-ℤ◌, ◌*ℤ◌, neg_ℤ, unsigned_abs}
+use Rattle.std.specs.Prelude.{zero, suc, ℤ, pos, negsuc, ◌+ℤ◌, ◌-ℤ◌, ◌*ℤ◌, neg_ℤ, unsigned_abs}
 use Rattle.scratch_number.specs.declared.number.Num.{Num}
 use Rattle.scratch_number.specs.declared.number.Num.TheVariants.{Fixed, Inf, NegInf, Nan}
 use Rattle.scratch_number.specs.Number.{number, near, floor_quotient, infinity_by, negated}

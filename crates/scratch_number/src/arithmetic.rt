@@ -156,7 +156,7 @@ fn near(n: i128, d: i128) -> Num
 }
 
 // `n / d` rounded to the nearest, halves up.
-fn near_size(n: u128, d: u128) -> u128
+pub(crate) fn near_size(n: u128, d: u128) -> u128
     requires divisor { 0 < d }
     requires fits { 2 * n + 2 * d < 2 ^ 128 }
     ensures { result ≡ near_size n d }

@@ -2,10 +2,12 @@
 //! not-a-number. Each operation is defined for all arguments; none takes memory and none fails.
 #![tactic(auto)]
 
+mod angles;
 mod arithmetic;
 mod number;
 mod whole;
 
+pub use angles::{acos, asin, atan, atan2, cos, sin, sqrt, tan};
 pub use arithmetic::{add, div, modulo, mul, sub};
 pub use number::{Num, Raw, negated, of_millionths, of_whole, order};
 pub use whole::{abs, ceiling, floor, round};
