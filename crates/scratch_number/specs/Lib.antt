@@ -1,3 +1,4 @@
 pub mod Number
 pub mod Arithmetic
 pub mod Angles
+pub mod Text
