@@ -6,3 +6,4 @@ pub mod Rounding
 pub mod Digits
 pub mod Decimals
 pub mod Scanning
+pub mod Grammars

@@ -1,15 +1,12 @@
 -- Fractions of powers of ten, rounded, and numbers past the limit.
-use Rattle.std.proofs.Common.{◌≡◌, ℕ, zero, suc, ◌+◌, ◌-◌, ◌*◌, ◌/◌, ◌%◌, ◌^◌, ◌<◌, ◌≤◌, min, inl, inr, refl, sym, ap, ◌∙◌, arith}
+use Rattle.std.proofs.Common.{◌≡◌, ℕ, zero, suc, ◌+◌, ◌-◌, ◌*◌, ◌/◌, ◌%◌, ◌^◌, ◌<◌, ◌≤◌, min, inl, inr, sym, ap, ◌∙◌, arith}
 use Rattle.std.specs.Prelude.{pos, Bool, true, false}
-use Rattle.std.proofs.lemmas.Bool.{cases_lt, cond-true, cond-false, le-leb, lt-leb}
+use Rattle.std.proofs.lemmas.Bool.{cases_lt}
 use Rattle.std.proofs.lemmas.Bool.Decides.{nat_tests}
 use Rattle.std.proofs.lemmas.Nat.{pow-add, mul-le, mod_below, div-add-mod'}
-use Rattle.std.proofs.Math.Nat.{pow-suc, one-le-pow, pow-le-pow_right, div-eq_of_lt-le}
-use Rattle.scratch_number.specs.declared.number.Num.{Num}
-use Rattle.scratch_number.specs.declared.number.Num.TheVariants.{Inf}
+use Rattle.std.proofs.Math.Nat.{pow-suc, pow-le-pow_right, div-eq_of_lt-le}
 use Rattle.scratch_number.specs.Number.{near_size, number}
 use Rattle.scratch_number.specs.Grammar.{decimal_size}
-use Rattle.scratch_number.specs.Reading.{cap}
 use Rattle.scratch_number.proofs.Texts.{pow_ten_pos}
 
 -- a quotient is known by its bounds
@@ -52,22 +49,25 @@ number-large m n large other = grind (arith, nat_tests)
 -- a number that is cut at the cap, times the same
 pub number-capped : (m k : ℕ) → number (pos (min m 100000000000000000000 * k)) ≡ number (pos (m * k))
 number-capped m k = elim (cases_lt 100000000000000000000 m) [
-      inl large ↦ elim (cases_lt 0 k) [
-          inl some ↦
-            let least : min m 100000000000000000000 ≡ 100000000000000000000 = omega arith in
-            ap (λ (x : ℕ). number (pos (x * k))) least
-              ∙ number-large (100000000000000000000 * k) (m * k) (omega arith) (omega (arith, mul-le 100000000000000000000 1 m k (omega arith) (omega arith)))
-        | inr none ↦
-            let nothing : k ≡ 0 = omega arith in
-            let product : min m 100000000000000000000 * 0 ≡ m * 0 = omega arith in
-            ap (λ (x : ℕ). number (pos (min m 100000000000000000000 * x))) nothing ∙ ap (λ (x : ℕ). number (pos x)) product ∙ sym (ap (λ (x : ℕ). number (pos (m * x))) nothing) ]
-    | inr small ↦ let same : min m 100000000000000000000 ≡ m = omega arith in ap (λ (x : ℕ). number (pos (x * k))) same ]
+  | inl large ↦ elim (cases_lt 0 k) [
+    | inl some ↦
+        let least : min m 100000000000000000000 ≡ 100000000000000000000 = omega arith in
+        ap (λ (x : ℕ). number (pos (x * k))) least
+        ∙ number-large (100000000000000000000 * k) (m * k) (omega arith) (omega (arith, mul-le 100000000000000000000 1 m k (omega arith) (omega arith)))
+    | inr none ↦
+        let nothing : k ≡ 0 = omega arith in
+        let product : min m 100000000000000000000 * 0 ≡ m * 0 = omega arith in
+        ap (λ (x : ℕ). number (pos (min m 100000000000000000000 * x))) nothing ∙ ap (λ (x : ℕ). number (pos x)) product ∙ sym (ap (λ (x : ℕ). number (pos (m * x))) nothing)
+  ]
+  | inr small ↦ let same : min m 100000000000000000000 ≡ m = omega arith in ap (λ (x : ℕ). number (pos (x * k))) same
+]
 
 -- the same for the rounding of a digit behind
 pub number-capped_part : (m : ℕ) → number (pos ((min m 100000000000000000000 + 5) / 10)) ≡ number (pos ((m + 5) / 10))
 number-capped_part m = elim (cases_lt 100000000000000000000 m) [
-      inl large ↦ number-large ((min m 100000000000000000000 + 5) / 10) ((m + 5) / 10) (omega arith) (omega arith)
-    | inr small ↦ let same : min m 100000000000000000000 ≡ m = omega arith in ap (λ (x : ℕ). number (pos ((x + 5) / 10))) same ]
+  | inl large ↦ number-large ((min m 100000000000000000000 + 5) / 10) ((m + 5) / 10) (omega arith) (omega arith)
+  | inr small ↦ let same : min m 100000000000000000000 ≡ m = omega arith in ap (λ (x : ℕ). number (pos ((x + 5) / 10))) same
+]
 
 -- a positive number times ten to a power of 19 and more is past the limit
 pub number-scaled_far : (m zeros : ℕ) → 0 < m → 19 ≤ zeros → number (pos 100000000000000000000) ≡ number (pos (m * 10 ^ zeros))

@@ -1,13 +1,11 @@
 -- The parts that a text is read in.
-use Rattle.std.proofs.Common.{◌≡◌, ℕ, zero, suc, ◌+◌, ◌-◌, ◌<◌, ◌≤◌, Bool, true, false, cond, List, [], ◌∷◌, ◌++◌, length, take, drop, slice_index, inl, inr, refl, sym, ap, ◌∙◌, arith}
-use Rattle.std.specs.Prelude.{if◌then◌else◌, ◌==◌, min, Option, Some, None, unwrap_or, codes}
+use Rattle.std.proofs.Common.{◌≡◌, ℕ, ◌<◌, Bool, false, List, [], ◌∷◌, length, take, drop, inl, inr, refl, sym, ap, ◌∙◌, arith}
+use Rattle.std.specs.Prelude.{◌==◌, min, Option, Some, None, unwrap_or, codes}
 use Rattle.std.specs.Str.{bytes_eq}
 use Rattle.std.proofs.Math.Numerals.{one-add}
-use Rattle.std.specs.Char.{digit_value}
 use Rattle.std.specs.Str.Parse.{AllDigits}
-use Rattle.std.specs.List.{prefix_len, list_all}
-use Rattle.std.proofs.lemmas.Bool.{cond_both, cases_Bool, cond-true, cond-false, ltb-true, lt-ltb, eqb-true}
-use Rattle.std.proofs.lemmas.Bool.Decides.{nat_tests}
+use Rattle.std.specs.List.{prefix_len}
+use Rattle.std.proofs.lemmas.Bool.{cond_both, cases_Bool, cond-false, ltb-true}
 use Rattle.scratch_number.specs.Reading.{after_digits, after_fraction, base_of, base_of_letter, digit_run, digits_front, fraction_front, is_digit, cap, capped_exponent, exponent_of, decimal_number, unsigned_number}
 use Rattle.scratch_number.specs.declared.number.Num.{Num}
 use Rattle.scratch_number.specs.declared.number.Num.TheVariants.{Nan}
@@ -26,8 +24,9 @@ base_of-short (c ∷ d ∷ cs) short = absurd (omega arith)
 digits_take-all : (t : List ℕ) → AllDigits 10 (take (prefix_len (is_digit 10) t) t)
 digits_take-all [] = tt
 digits_take-all (c ∷ cs) = elim (cases_Bool (is_digit 10 c)) [
-      inl digit ↦ rw (digit, one-add) (ltb-true _ _ digit, digits_take-all cs)
-    | inr other ↦ rw other tt ]
+  | inl digit ↦ rw (digit, one-add) (ltb-true _ _ digit, digits_take-all cs)
+  | inr other ↦ rw other tt
+]
 
 -- the digits that a text begins with are digits
 pub digits_front-all : (t : List ℕ) → AllDigits 10 (digits_front t)
@@ -61,16 +60,16 @@ unsigned_number-some t digits rest fraction last n size down o r other run front
     let whole : digits ≡ digits_front t = front ∙ ap (λ (k : ℕ). take k t) run in
     let behind : rest ≡ after_digits t = back ∙ ap (λ (k : ℕ). drop k t) run in
     given known.0 known.2
-      ∙ ap (λ (o : Option (Bool × ℕ)). decimal_number digits fraction o) (sym known.1)
-      ∙ ap (λ (xs : List ℕ). decimal_number xs fraction (exponent_of last)) whole
-      ∙ ap (λ (xs : List ℕ). decimal_number (digits_front t) xs (exponent_of last)) (point ∙ ap (λ (ys : List ℕ). fraction_front ys) behind)
-      ∙ ap (λ (xs : List ℕ). decimal_number (digits_front t) (fraction_front (after_digits t)) (exponent_of xs)) (left ∙ ap (λ (ys : List ℕ). after_fraction ys) behind)
-      ∙ sym (cond-false _ _ _ other)
+    ∙ ap (λ (o : Option (Bool × ℕ)). decimal_number digits fraction o) (sym known.1)
+    ∙ ap (λ (xs : List ℕ). decimal_number xs fraction (exponent_of last)) whole
+    ∙ ap (λ (xs : List ℕ). decimal_number (digits_front t) xs (exponent_of last)) (point ∙ ap (λ (ys : List ℕ). fraction_front ys) behind)
+    ∙ ap (λ (xs : List ℕ). decimal_number (digits_front t) (fraction_front (after_digits t)) (exponent_of xs)) (left ∙ ap (λ (ys : List ℕ). after_fraction ys) behind)
+    ∙ sym (cond-false _ _ _ other)
 
 pub unsigned_number-none : (t rest last : List ℕ) (n : ℕ) (o : Option (Bool × ℕ)) → bytes_eq t (codes "Infinity") ≡ false → n ≡ digit_run t → rest ≡ drop n t → last ≡ after_fraction rest → o ≡ capped_exponent (exponent_of last) → o ≡ None → Nan ≡ unsigned_number t
 unfolding unsigned_number after_digits decimal_number
 unsigned_number-none t rest last n o other run back left read is =
     let behind : rest ≡ after_digits t = back ∙ ap (λ (k : ℕ). drop k t) run in
     let known : exponent_of (after_fraction (after_digits t)) ≡ None =
-      ap (λ (ys : List ℕ). exponent_of (after_fraction ys)) (sym behind) ∙ ap (λ (xs : List ℕ). exponent_of xs) (sym left) ∙ exponent-none (exponent_of last) (sym is ∙ read) in
+    ap (λ (ys : List ℕ). exponent_of (after_fraction ys)) (sym behind) ∙ ap (λ (xs : List ℕ). exponent_of xs) (sym left) ∙ exponent-none (exponent_of last) (sym is ∙ read) in
     ap (λ (o : Option (Bool × ℕ)). decimal_number (digits_front t) (fraction_front (after_digits t)) o) (sym known) ∙ sym (cond-false _ _ _ other)

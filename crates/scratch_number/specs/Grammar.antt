@@ -2,7 +2,7 @@
 use Rattle.std.specs.Prelude.{ℕ, ◌+◌, ◌*◌, ◌^◌, ◌≡◌, ◌⊎◌, pos, Bool, true, false, List, [], ◌∷◌, ◌++◌, length, codes}
 use Rattle.std.specs.Str.Parse.{AllDigits, IsNumeral, digits_value}
 use Rattle.scratch_number.specs.declared.number.Num.{Num}
-use Rattle.scratch_number.specs.declared.number.Num.TheVariants.{Fixed, Inf, NegInf, Nan}
+use Rattle.scratch_number.specs.declared.number.Num.TheVariants.{Fixed, Inf, Nan}
 use Rattle.scratch_number.specs.Number.{number, near_size, negated}
 
 -- an optional sign, and whether it is a minus
@@ -30,12 +30,12 @@ pub data IsExponent : List ℕ → Bool → ℕ → Type 0 where
 
 -- the letter of a base: `0x`, `0b` and `0o`, in either case
 pub data IsBaseLetter : ℕ → ℕ → Type 0 where
-  x : IsBaseLetter 120 16
-  X : IsBaseLetter 88 16
-  b : IsBaseLetter 98 2
-  B : IsBaseLetter 66 2
-  o : IsBaseLetter 111 8
-  O : IsBaseLetter 79 8
+  hex : IsBaseLetter 120 16
+  large_hex : IsBaseLetter 88 16
+  binary : IsBaseLetter 98 2
+  large_binary : IsBaseLetter 66 2
+  octal : IsBaseLetter 111 8
+  large_octal : IsBaseLetter 79 8
 
 -- n / 10^places · 10^size, or by 10^size where the exponent is below 0: the exact fraction in
 -- millionths, rounded once

@@ -1,11 +1,11 @@
 -- The number of a text as a function of the text. `Reads` of the file Grammar says what it gives.
-use Rattle.std.specs.Prelude.{ℕ, ◌+◌, ◌*◌, ◌==◌, nat_lt, min, pos, Bool, true, false, ◌&&◌, ◌||◌, if◌then◌else◌, Option, Some, None, List, [], ◌∷◌, ◌++◌, length, take, drop, slice_index, codes}
+use Rattle.std.specs.Prelude.{ℕ, ◌+◌, ◌*◌, ◌==◌, nat_lt, min, pos, Bool, false, ◌&&◌, ◌||◌, if◌then◌else◌, Option, Some, None, List, [], ◌∷◌, ◌++◌, length, take, drop, slice_index, codes}
 use Rattle.std.specs.Char.{digit_value}
 use Rattle.std.specs.List.{prefix_len, list_all}
 use Rattle.std.specs.Str.{bytes_eq, trim}
 use Rattle.std.specs.Str.Parse.{digits_value}
 use Rattle.scratch_number.specs.declared.number.Num.{Num}
-use Rattle.scratch_number.specs.declared.number.Num.TheVariants.{Fixed, Inf, NegInf, Nan}
+use Rattle.scratch_number.specs.declared.number.Num.TheVariants.{Fixed, Inf, Nan}
 use Rattle.scratch_number.specs.Number.{number}
 use Rattle.scratch_number.specs.Grammar.{decimal_size, with_sign}
 

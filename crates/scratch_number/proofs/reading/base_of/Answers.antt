@@ -1,5 +1,4 @@
-use Rattle.std.proofs.Common.{arith, sym}
-use Rattle.scratch_number.specs.Reading.{base_of}
+use Rattle.std.proofs.Common.{sym}
 use Rattle.scratch_number.proofs.Scanning.{base_of-short}
 use Rattle.scratch_number.proofs.reading.base_of.Goals as goal
 

@@ -1,6 +1,4 @@
-use Rattle.std.proofs.Common.{ℕ, ◌+◌, ◌*◌, arith, ap, ◌∙◌, sym, min, take}
-use Rattle.std.specs.Str.Parse.{digits_value_after}
-use Rattle.std.specs.Char.{digit_value}
+use Rattle.std.proofs.Common.{arith}
 use Rattle.std.proofs.lemmas.Nat.{mul-le}
 use Rattle.scratch_number.proofs.Digits.{cut-step}
 use Rattle.scratch_number.proofs.reading.capped_value.Goals as goal
@@ -11,5 +9,5 @@ overflow_mul-value c = omega (arith, mul-le c.loop-digit.value c.args.base 10000
 pub loop-digit-preserved : goal.loop-digit-preserved
 loop-digit-preserved c = record {
   cut = cut-step c.args.base c.args.start c.args.digits.now c.loop-digit.digit-index _ _ _ c.requires.some c.loop-digit-test.true c.loop-digit.invariant.cut c.digit_value.ensures.value c.min-value.ensures;
-  within = omega arith
+  within = omega arith;
 }

@@ -1,5 +1,5 @@
-use Rattle.std.proofs.Common.{◌≡◌, ℕ, List, take, arith, rules, ap, ◌∙◌, sym}
-use Rattle.scratch_number.specs.Reading.{unsigned_number, digits_front, after_digits}
+use Rattle.std.proofs.Common.{◌≡◌, ℕ, take, rules, ap, ◌∙◌}
+use Rattle.scratch_number.specs.Reading.{digits_front}
 use Rattle.scratch_number.proofs.Scanning.{digits_front-all, fraction_front-all, unsigned_number-some, unsigned_number-none}
 use Rattle.scratch_number.proofs.reading.unsigned_number.Goals as goal
 
