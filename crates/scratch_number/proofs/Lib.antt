@@ -7,3 +7,4 @@ pub mod Digits
 pub mod Decimals
 pub mod Scanning
 pub mod Grammars
+pub mod ReadBack

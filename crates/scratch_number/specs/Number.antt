@@ -1,5 +1,5 @@
 -- The profile's numbers: whole millionths of at most 9·10^18 in size, two infinities and not-a-number.
-use Rattle.std.specs.Prelude.{ℕ, zero, suc, ◌+◌, ◌*◌, ◌/◌, ℤ, pos, negsuc, neg_ℤ, nat_le, if◌then◌else◌, Option, Some, None}
+use Rattle.std.specs.Prelude.{◌≤◌, ℕ, zero, suc, ◌+◌, ◌*◌, ◌/◌, ℤ, pos, negsuc, neg_ℤ, nat_le, unsigned_abs, if◌then◌else◌, Option, Some, None}
 use Rattle.std.specs.Ordering.{int_cmp}
 use Rattle.std.specs.declared.cmp.Ordering.{Ordering}
 use Rattle.std.specs.declared.cmp.Ordering.TheVariants.{Less, Equal, Greater}
@@ -64,3 +64,10 @@ order NegInf Inf = Some Less
 order NegInf NegInf = Some Equal
 order NegInf Nan = None
 order Nan b = None
+
+-- a number that is finite is at most the limit in size, as each number of the program is
+abbrev pub IsWithin : Num → Type 0
+IsWithin (Fixed z) = unsigned_abs z ≤ limit
+IsWithin Inf = Unit {0}
+IsWithin NegInf = Unit {0}
+IsWithin Nan = Unit {0}

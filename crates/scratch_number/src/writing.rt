@@ -1,5 +1,8 @@
 ghost use Rattle.std.specs.Prelude.{◌≡◌, ◌≤◌, ◌<◌, ◌+◌, ◌^◌, [], ◌∷◌, ◌++◌, length, EachIndex, slice_index};
 ghost use Rattle.std.specs.Fmt.{decimal};
+ghost use Rattle.scratch_number.specs.declared.number.Num.{Num};
+ghost use Rattle.scratch_number.specs.Number.{IsWithin};
+ghost use Rattle.scratch_number.specs.Reading.{number_of};
 ghost use Rattle.scratch_number.specs.Text.{fraction_digits, fraction_text, size_text, text_of};
 
 use crate::number::{Num, Raw};
@@ -63,9 +66,12 @@ impl NumText {
 }
 
 /// Writes the number's text: the shortest decimal without exponent, `Infinity`, `-Infinity` or
-/// `NaN`. What the buffer held before is gone.
+/// `NaN`. What the buffer held before is gone. The text reads as the number, and no other number
+/// has it.
 pub fn write_text(a: Num, out: &mut NumText)
-    ensures { out.new ≡ text_of a }
+    ensures text { out.new ≡ text_of a }
+    ensures reads_back { number_of out.new ≡ a }
+    ensures own { (b : Num) → IsWithin b → text_of b ≡ out.new → b ≡ a }
 {
     out.clear();
     match a {
@@ -90,7 +96,8 @@ fn push_all(bytes: &[u8], out: &mut NumText)
 // Writes a finite number into an empty text.
 fn push_raw(x: Raw, out: &mut NumText)
     requires { out.old ≡ [] }
-    ensures { out.new ≡ text_of (Num.Fixed x) }
+    ensures text { out.new ≡ text_of (Num.Fixed x) }
+    ensures small { IsWithin (Num.Fixed x) }
 {
     let n = x.get();
     if n < 0 {
