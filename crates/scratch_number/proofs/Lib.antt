@@ -8,3 +8,4 @@ pub mod Decimals
 pub mod Scanning
 pub mod Grammars
 pub mod ReadBack
+pub mod Rows
