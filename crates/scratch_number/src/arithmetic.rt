@@ -129,7 +129,7 @@ fn signed_like(y: Raw, a: Num) -> Num
     if y.get() < 0 { negated(a) } else { a }
 }
 
-// `x / y` of finite numbers. The product of 2 · 9·10^18 · 10^6 and a divisor fit 128 bits.
+// `x / y` of finite numbers. The dividend in millionths is at most 9·10^24 in size, below 2^83.
 fn ratio(x: Raw, y: Raw) -> Num
     ensures { result ≡ ratio x y }
 {
@@ -139,8 +139,9 @@ fn ratio(x: Raw, y: Raw) -> Num
     near(x.get() as i128 * 1_000_000, y.get() as i128)
 }
 
-// The number of `n / d` millionths, rounded to the nearest, halves away from zero. Twice the
-// product of two raws is below 2^127.6, so it fits a `u128`.
+// The number of `n / d` millionths, rounded to the nearest, halves away from zero. A product of
+// two raws is at most 81·10^36 in size, below 2^126, so an `i128` holds it, and a `u128` holds
+// twice it with a divisor.
 fn near(n: i128, d: i128) -> Num
     requires divisor { d ≢ pos 0 }
     requires small { unsigned_abs n ≤ 9000000000000000000 * 9000000000000000000 }
