@@ -1,0 +1,20 @@
+//! The numbers of the profile: fixed-point numbers in whole millionths with two infinities and
+//! not-a-number. Each operation is defined for all arguments; none takes memory and none fails.
+#![tactic(auto)]
+
+mod angles;
+mod arithmetic;
+mod number;
+mod reading;
+mod whole;
+mod writing;
+
+pub use angles::{acos, asin, atan, atan2, cos, sin, sqrt, tan};
+pub use arithmetic::{add, div, modulo, mul, sub};
+pub use number::{Num, Raw, negated, of_millionths, of_whole, order};
+pub use reading::of_text;
+pub use whole::{abs, ceiling, floor, round};
+pub use writing::{NumText, write_text};
+
+#[cfg(test)]
+mod tests;
