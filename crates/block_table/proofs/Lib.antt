@@ -1,5 +1,6 @@
 pub mod Each
 pub mod Noted
 pub mod Numbers
+pub mod Order
 pub mod Positions
 mod Rows

@@ -306,11 +306,15 @@ blocks_of ids ms = blocks_from ids ms 0 ms
 abbrev pub no_member : List ℕ → Tree → Option (Unit {0})
 no_member name t = defaulted (λ m. None) tt name t
 
+-- the opcode of a monitor, which is that of a variable
+abbrev pub variable_opcode_of : Tree → Option (List ℕ)
+variable_opcode_of t = fitting (λ opcode. bytes_eq opcode (codes "data_variable")) (opcode_of t)
+
 -- a monitor of a variable of the stage
 abbrev pub monitor_of : List (List ℕ) → Tree → Option FirstMonitor
 monitor_of ids t =
     required text_in (codes "id") t >>= (λ id.
-    fitting (λ opcode. bytes_eq opcode (codes "data_variable")) (required text_in (codes "opcode") t) >>= (λ opcode.
+    variable_opcode_of t >>= (λ opcode.
     no_member (codes "spriteName") t >>= (λ sprite.
     defaulted truth_in false (codes "visible") t >>= (λ visible.
     defaulted members_in [] (codes "params") t >>= (λ params.

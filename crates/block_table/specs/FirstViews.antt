@@ -1,10 +1,11 @@
 -- Temporary: what the code reads of the first form, as the definitions have it.
-use Rattle.std.specs.Prelude.{ℕ, List, Option, map}
+use Rattle.std.specs.Prelude.{ℕ, ℤ, List, Option, map}
 use Rattle.std.specs.BTreeMap.{get_by}
 use Rattle.std.specs.Ordering.{nat_cmp}
 use Rattle.std.specs.Cmp.Lexicographic.{slice_cmp}
 use Rattle.project_json.specs.View.{field}
 use Rattle.block_table.specs.FirstForm as form
+use Rattle.block_table.specs.FirstOrder.{Layered}
 use Rattle.block_table.specs.declared.first.places.Places.{Places}
 use Rattle.block_table.specs.declared.first.target.Look.{Look}
 use Rattle.block_table.specs.declared.first.target.Sheet.{Sheet}
@@ -18,3 +19,7 @@ sheet_seen s = record { target = s.target; variables = s.variables.items; blocks
 -- the place that is noted under a name
 abbrev pub place_at : Places → List ℕ → Option ℕ
 place_at p q = get_by (λ k. slice_cmp nat_cmp q k.now) p.places
+
+-- layer orders with their places
+abbrev pub ranks : List Layered → List (ℤ × ℕ)
+ranks ss = map (λ s. (s.layer, s.place)) ss

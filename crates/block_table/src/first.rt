@@ -5,7 +5,9 @@
 
 mod blocks;
 mod members;
+mod monitors;
 mod numbers;
+mod order;
 mod places;
 mod refusal;
 mod target;

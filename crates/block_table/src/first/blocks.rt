@@ -133,7 +133,7 @@ fn literal(json: &Json) -> Result<&Text, FirstRefusal>
 fn variable_with(ids: &Ids, id: &Text) -> Result<u32, FirstRefusal>
     ensures { Reads (λ n. n) result (position (λ other. bytes_eq other id.now) ids.now) }
 {
-    match ids.place(id.as_str()) {
+    match ids.place(id) {
         Some(place) => Ok(place),
         None => Err(FirstRefusal::Shape),
     }

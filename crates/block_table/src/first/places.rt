@@ -78,10 +78,10 @@ impl<'a> Ids<'a> {
     }
 
     /// The place of the first that is this text. It takes the time of a logarithm.
-    pub(crate) fn place(&self, id: &str) -> Option<u32>
+    pub(crate) fn place(&self, id: &Text) -> Option<u32>
         ensures { result ≡ position (λ other. bytes_eq other id.now) self.now }
     {
-        self.places.place(id)
+        self.places.place(id.as_str())
     }
 }
 
