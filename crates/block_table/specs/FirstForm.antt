@@ -322,19 +322,35 @@ monitor_of ids t =
 
 -- The project
 
--- the variables of all targets, which are the stage's, with their ids
-abbrev pub all_variables : List Sheet → List (List ℕ × FirstVariable)
-all_variables sheets = flat_map (λ s. s.variables) sheets
+-- what the targets tell together
+pub record Parts : Type 0 where
+  pub targets : List FirstTarget
+  pub variables : List (List ℕ × FirstVariable)
+  pub blocks : List (List (List ℕ × Tree))
+
+-- the variables of all targets are the stage's
+abbrev pub parts_of : List Sheet → Parts
+parts_of sheets = record { targets = map (λ s. s.target) sheets; variables = flat_map (λ s. s.variables) sheets; blocks = map (λ s. s.blocks) sheets }
 
 -- one target is the stage, and there are at most 10,000 blocks in all
 abbrev pub are_fit : List Sheet → Bool
 are_fit sheets = (count_by (λ s. s.target.is_stage) sheets == 1) && nat_le (sum_by (λ s. length s.blocks) sheets) 10000
 
+abbrev pub sheets_in : Tree → Option (List Sheet)
+sheets_in t = required items_in (codes "targets") t >>= each sheet_of
+
+abbrev pub parts_in : Tree → Option Parts
+parts_in t = fitting are_fit (sheets_in t) >>= (λ sheets. Some (parts_of sheets))
+
+abbrev pub monitors_in : List (List ℕ) → Tree → Option (List FirstMonitor)
+monitors_in ids t = defaulted items_in [] (codes "monitors") t >>= each (monitor_of ids)
+
+abbrev pub ids_of : List (List ℕ × FirstVariable) → List (List ℕ)
+ids_of variables = map (λ v. v.0) variables
+
 abbrev pub project_of : Tree → Option Project
 project_of t =
-    fitting are_fit (required items_in (codes "targets") t >>= each sheet_of) >>= (λ sheets.
-    let variables = all_variables sheets in
-    let ids = map (λ v. v.0) variables in
-    defaulted items_in [] (codes "monitors") t >>= each (monitor_of ids) >>= (λ monitors.
-    each (λ s. blocks_of ids s.blocks) sheets >>= (λ blocks.
-    Some (record { targets = map (λ s. s.target) sheets; blocks = blocks; variables = map (λ v. v.1) variables; monitors = monitors }))))
+    parts_in t >>= (λ parts.
+    monitors_in (ids_of parts.variables) t >>= (λ monitors.
+    each (blocks_of (ids_of parts.variables)) parts.blocks >>= (λ blocks.
+    Some (record { targets = parts.targets; blocks = blocks; variables = map (λ v. v.1) parts.variables; monitors = monitors }))))

@@ -9,6 +9,7 @@ use Rattle.block_table.specs.FirstOrder.{Layered}
 use Rattle.block_table.specs.declared.first.places.Places.{Places}
 use Rattle.block_table.specs.declared.first.target.Look.{Look}
 use Rattle.block_table.specs.declared.first.target.Sheet.{Sheet}
+use Rattle.block_table.specs.declared.first.project.Parts.{Parts}
 
 abbrev pub look_seen : Look → form.Look
 look_seen l = record { visible = l.visible; x = l.x; y = l.y; size = l.size; direction = l.direction }
@@ -23,3 +24,6 @@ place_at p q = get_by (λ k. slice_cmp nat_cmp q k.now) p.places
 -- layer orders with their places
 abbrev pub ranks : List Layered → List (ℤ × ℕ)
 ranks ss = map (λ s. (s.layer, s.place)) ss
+
+abbrev pub parts_seen : Parts → form.Parts
+parts_seen p = record { targets = p.targets.items; variables = p.variables.items; blocks = map (λ ms. map field ms.now) p.blocks.items }

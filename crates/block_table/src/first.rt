@@ -9,6 +9,7 @@ mod monitors;
 mod numbers;
 mod order;
 mod places;
+mod project;
 mod refusal;
 mod target;
 mod types;
