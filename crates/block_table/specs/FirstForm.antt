@@ -348,9 +348,15 @@ monitors_in ids t = defaulted items_in [] (codes "monitors") t >>= each (monitor
 abbrev pub ids_of : List (List ℕ × FirstVariable) → List (List ℕ)
 ids_of variables = map (λ v. v.0) variables
 
+-- the monitors, and the blocks of each target
+abbrev pub linked_in : Parts → Tree → Option (List FirstMonitor × List (List FirstBlock))
+linked_in parts t =
+    monitors_in (ids_of parts.variables) t >>= (λ monitors.
+    each (blocks_of (ids_of parts.variables)) parts.blocks >>= (λ blocks.
+    Some (monitors, blocks)))
+
 abbrev pub project_of : Tree → Option Project
 project_of t =
     parts_in t >>= (λ parts.
-    monitors_in (ids_of parts.variables) t >>= (λ monitors.
-    each (blocks_of (ids_of parts.variables)) parts.blocks >>= (λ blocks.
-    Some (record { targets = parts.targets; blocks = blocks; variables = map (λ v. v.1) parts.variables; monitors = monitors }))))
+    linked_in parts t >>= (λ linked.
+    Some (record { targets = parts.targets; blocks = linked.1; variables = map (λ v. v.1) parts.variables; monitors = linked.0 })))

@@ -15,6 +15,7 @@ mod target;
 mod types;
 mod variables;
 
+pub use project::first_form;
 pub use refusal::FirstRefusal;
 pub use types::{
     FirstBlock, FirstBlocks, FirstCode, FirstMonitor, FirstMonitors, FirstOrder, FirstProject,

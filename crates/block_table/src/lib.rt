@@ -7,7 +7,7 @@ mod texts;
 
 pub use first::{
     FirstBlock, FirstBlocks, FirstCode, FirstMonitor, FirstMonitors, FirstOrder, FirstProject,
-    FirstRefusal, FirstTarget, FirstTargets, FirstVariable, FirstVariables,
+    FirstRefusal, FirstTarget, FirstTargets, FirstVariable, FirstVariables, first_form,
 };
 pub use style::Style;
 pub use texts::Texts;

@@ -1,9 +1,9 @@
 //! The project of a document.
 
-ghost use Rattle.std.specs.Prelude.{◌≡◌, ◌<◌, ◌≤◌, ◌^◌, ◌++◌, IfOk, OnOk, length, map, sum_by, count_by, nat_le};
+ghost use Rattle.std.specs.Prelude.{◌≡◌, ◌<◌, ◌≤◌, ◌^◌, ◌++◌, IfOk, OnOk, Some, length, map, sum_by, count_by, nat_le};
 ghost use Rattle.project_json.specs.Size.{size_of};
 ghost use Rattle.project_json.specs.View.{tree, field};
-ghost use Rattle.block_table.specs.FirstForm.{each, sheet_of, sheets_in, are_fit, parts_of, parts_in, monitors_in, blocks_of, project_of};
+ghost use Rattle.block_table.specs.FirstForm.{each, sheet_of, sheets_in, are_fit, parts_of, parts_in, monitors_in, blocks_of, linked_in, project_of};
 ghost use Rattle.block_table.specs.FirstReads.{Reads};
 ghost use Rattle.block_table.specs.FirstViews.{sheet_seen, parts_seen};
 
@@ -107,4 +107,111 @@ fn parts_of(alloc: Global, sheets: Vec<Sheet<'_>>) -> Result<Parts<'_>, AllocErr
         parts.blocks.push(sheet.blocks)?;
     }
     Ok(parts)
+}
+
+fn fit_parts<'a>(alloc: Global, sheets: Vec<Sheet<'a>>) -> Result<Parts<'a>, FirstRefusal>
+    ensures { Reads parts_seen result (Some (parts_of (map sheet_seen sheets.entry.items))) }
+{
+    match parts_of(alloc, sheets) {
+        Ok(parts) => Ok(parts),
+        Err(_) => Err(FirstRefusal::NoMemory),
+    }
+}
+
+fn parts_in(alloc: Global, document: &Json) -> Result<Parts<'_>, FirstRefusal>
+    ensures { Reads parts_seen result (parts_in (tree document.now)) }
+{
+    match sheets(alloc, document) {
+        Ok(sheets) => {
+            if are_fit(sheets.as_slice()) {
+                fit_parts(alloc, sheets)
+            } else {
+                Err(FirstRefusal::Shape)
+            }
+        }
+        Err(refusal) => Err(refusal),
+    }
+}
+
+fn all_monitors(
+    alloc: Global,
+    ids: &Ids,
+    document: &Json,
+) -> Result<Vec<FirstMonitor>, FirstRefusal>
+    ensures { Reads (λ v. v.items) result (monitors_in ids.now (tree document.now)) }
+{
+    let items = defaulted_items(document, "monitors")?;
+    monitors(alloc, ids, items)
+}
+
+// The blocks of each target, of which there are few enough.
+fn all_blocks(
+    alloc: Global,
+    ids: &Ids,
+    lists: &[&[Member]],
+) -> Result<Vec<FirstBlocks>, FirstRefusal>
+    requires { sum_by length (map (λ ms. map field ms.now) lists.now) ≤ 10000 }
+    ensures { Reads (λ v. v.items) result (each (blocks_of ids.now) (map (λ ms. map field ms.now) lists.now)) }
+{
+    let mut tables = Vec::new(alloc);
+    for members in lists {
+        let table = blocks(alloc, ids, members)?;
+        tables.push(table)?;
+    }
+    Ok(tables)
+}
+
+fn without_ids(
+    alloc: Global,
+    variables: Vec<(Text, FirstVariable)>,
+) -> Result<Vec<FirstVariable>, AllocError>
+    ensures { IfOk result (λ v. v.items ≡ map (λ w. w.1) variables.items) }
+{
+    let mut bare = Vec::new(alloc);
+    for (_, variable) in variables {
+        bare.push(variable)?;
+    }
+    Ok(bare)
+}
+
+// The monitors, and the blocks of each target.
+fn linked(
+    alloc: Global,
+    parts: &Parts,
+    document: &Json,
+) -> Result<(Vec<FirstMonitor>, Vec<FirstBlocks>), FirstRefusal>
+    requires variables { length parts.now.variables.items < 2 ^ 32 }
+    requires blocks { sum_by length (parts_seen parts.now).blocks ≤ 10000 }
+    ensures { Reads (λ x. (x.0.items, x.1.items)) result (linked_in (parts_seen parts.now) (tree document.now)) }
+{
+    let ids = Ids::new(alloc, parts.variables.as_slice())?;
+    let monitors = all_monitors(alloc, &ids, document)?;
+    let blocks = all_blocks(alloc, &ids, parts.blocks.as_slice())?;
+    Ok((monitors, blocks))
+}
+
+/// The project of a document of the first form. `Shape` comes exactly where the document is not of
+/// that form, and `NoMemory` where memory ran out. Reading n blocks takes the time of a sort.
+pub fn first_form(alloc: Global, document: &Json) -> Result<FirstProject, FirstRefusal>
+    requires { size_of (tree document.now) < 2 ^ 32 }
+    ensures { Reads (λ p. p) result (project_of (tree document.now)) }
+{
+    match parts_in(alloc, document) {
+        Ok(parts) => {
+            let (monitors, blocks) = linked(alloc, &parts, document)?;
+            let order = executable_order(alloc, parts.targets.as_slice())?;
+            let Parts {
+                targets, variables, ..
+            } = parts;
+            let variables = without_ids(alloc, variables)?;
+            Ok(FirstProject::new(
+                FirstTargets::new(targets),
+                blocks,
+                FirstVariables::new(variables),
+                FirstMonitors::new(monitors),
+                FirstOrder::new(order),
+            ))
+        }
+        Err(refusal) => Err(refusal),
+    }
 }
