@@ -1,4 +1,4 @@
-use Rattle.std.proofs.Common.{◌≡◌, ℕ, ◌<◌, ◌≤◌, List, length, get_or, map, sum_by, sym, ap, ◌∙◌, arith}
+use Rattle.std.proofs.Common.{◌≡◌, ℕ, ◌<◌, ◌≤◌, List, length, get_or, map, sum_by, refl, sym, ap, ◌∙◌, arith}
 use denote.Ref.{Bor}
 use Rattle.std.proofs.lemmas.List.{length-map}
 use Rattle.std.proofs.lemmas.List.Sums.{get_or-le-sum_by}
@@ -13,4 +13,5 @@ blocks-requires c =
     let ms = c.members-item.result in
     let seen : Bor (List Member) → List (List ℕ × Tree) = λ b. map field b.now in
     let below = get_or-le-sum_by (λ (b : Bor (List Member)). length (seen b)) c.args.lists.now c.loop-members.members-index ms (omega arith) in
-    omega (arith, below, sym (sum_by-map length seen c.args.lists.now), c.requires, ap (λ (b : Bor (List Member)). length (seen b)) c.members-item.is, length-map field ms.now)
+    let same : length (seen ms) ≡ length ms.now = rw length-map refl in
+    omega (arith, below, sym (sum_by-map length seen c.args.lists.now), c.requires, ap (λ (b : Bor (List Member)). length (seen b)) c.members-item.is, same)

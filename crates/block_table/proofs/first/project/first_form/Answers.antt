@@ -1,0 +1,18 @@
+use Rattle.std.proofs.Common.{length, sym, ap, ◌∙◌, arith}
+use Rattle.project_json.specs.View.{tree}
+use Rattle.block_table.specs.FirstViews.{parts_seen}
+use Rattle.block_table.proofs.Well.{few, well}
+use Rattle.block_table.proofs.first.project.first_form.Goals as goal
+
+pub linked-requires-clause-variables : goal.linked-requires-clause-variables
+linked-requires-clause-variables c =
+    let f = few (tree c.args.document.now) (parts_seen c.in-Ok.parts) c.in-Ok.ensures in
+    omega (arith, f.variables, c.requires)
+
+pub executable_order-requires : goal.executable_order-requires
+executable_order-requires c =
+    let f = few (tree c.args.document.now) (parts_seen c.in-Ok.parts) c.in-Ok.ensures in
+    omega (arith, f.targets, c.requires, ap length c.as_slice.ensures.value)
+
+pub new-requires-in-Ok-4-clause-well : goal.new-requires-in-Ok-4-clause-well
+new-requires-in-Ok-4-clause-well c = ?
