@@ -15,4 +15,6 @@ executable_order-requires c =
     omega (arith, f.targets, c.requires, ap length c.as_slice.ensures.value)
 
 pub new-requires-in-Ok-4-clause-well : goal.new-requires-in-Ok-4-clause-well
-new-requires-in-Ok-4-clause-well c = ?
+new-requires-in-Ok-4-clause-well c =
+    let w = well (tree c.args.document.now) (parts_seen c.in-Ok.parts) c.in_ok-monitors-in-Ok.monitors.items c.in_ok-monitors-in-Ok.blocks.items c.requires c.in-Ok.ensures c.in_ok-monitors-in-Ok.ensures in
+    rw (c.new.ensures, c.new-in-Ok.ensures, c.in_ok-variables-in-Ok.ensures, c.new-in-Ok-2.ensures) w
