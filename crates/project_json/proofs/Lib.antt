@@ -1,1 +1,11 @@
 pub mod Views
+pub mod Ascii
+pub mod Steps
+pub mod Put
+pub mod Lists
+pub mod Sound
+pub mod Sizes
+pub mod Complete
+pub mod Results
+pub mod Rows
+pub mod Plain

@@ -1,5 +1,5 @@
 -- The tree that a value stands for.
-use Rattle.std.specs.Prelude.{ℕ, List, map}
+use Rattle.std.specs.Prelude.{ℕ, List}
 use Rattle.project_json.specs.Tree.{Tree, null, truth, number, text, list, object, Trees, Fields, trees_of, fields_of}
 use Rattle.project_json.specs.declared.json.Json.{Json}
 use Rattle.project_json.specs.declared.json.Json.TheOpen.{Json-F, Items-F, Member-F, Members-F}
@@ -12,7 +12,7 @@ use Rattle.project_json.specs.declared.json.Members.{Members}
 abbrev pub json_step : Json-F Tree Trees (List ℕ × Tree) Fields → Tree
 json_step Json-F.Null = null
 json_step (Json-F.Truth b) = truth b
-json_step (Json-F.Number n) = number n.digits
+json_step (Json-F.Number n) = number n
 json_step (Json-F.Text t) = text t
 json_step (Json-F.List ts) = list ts
 json_step (Json-F.Object ms) = object ms

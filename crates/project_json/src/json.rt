@@ -33,8 +33,8 @@ pub struct Member {
     value: Json,
 }
 
-/// The members of an object, in the order of the document. No two have one name: a name that is
-/// repeated in the document has its earlier place and its later value.
+/// The members of an object, in the order of the document. A name that is repeated there has its
+/// earlier place and its later value.
 #[cycle(json)]
 #[derive(Debug, Drop)]
 pub struct Members {

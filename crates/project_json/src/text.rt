@@ -1,6 +1,7 @@
 //! Texts and numbers of a document.
 
-ghost use Rattle.std.specs.Prelude.{◌≡◌, [], bytes_eq, string_bytes, IfOk};
+ghost use Rattle.std.specs.Prelude.{◌≡◌, [], bytes_eq, IfOk};
+ghost use Rattle.std.specs.Str.{IsUtf8};
 ghost use Rattle.std.specs.Cmp.{partial_equiv_from_equiv};
 ghost use Rattle.std.specs.Cmp.Lexicographic.{nat_list_eq_equiv};
 
@@ -40,10 +41,14 @@ impl Text {
         })
     }
 
-    pub(crate) fn from_string(text: String) -> Text
-        ensures { result ≡ string_bytes text }
+    /// A text of these bytes.
+    pub(crate) fn from_utf8(alloc: Global, bytes: &[u8]) -> Result<Text, AllocError>
+        requires { IsUtf8 bytes.now }
+        ensures { IfOk result (λ t. t ≡ bytes.now) }
     {
-        Text { text }
+        Ok(Text {
+            text: String::from_utf8_lossy(alloc, bytes)?,
+        })
     }
 
     pub fn as_str(&self) -> &str
@@ -77,22 +82,30 @@ impl Eq for Text {
     ghost laws = { nat_list_eq_equiv };
 }
 
-/// A number as its own text, such as `-12`.
+/// A number as its own text, such as `-12`. Contracts see it as the list of the text's bytes.
 #[derive(Debug, Drop)]
 pub struct Decimal {
     digits: Text,
 }
 
+impl Model for Decimal {
+    ghost use Rattle.std.specs.Prelude.{List, ℕ};
+
+    ghost Value = { List ℕ };
+
+    ghost view = { λ a. a.digits };
+}
+
 impl Decimal {
     pub(crate) fn new(digits: Text) -> Decimal
-        ensures { result.digits ≡ digits }
+        ensures { result ≡ digits }
     {
         Decimal { digits }
     }
 
     /// The number's own text.
     pub fn digits(&self) -> &Text
-        ensures { result.now ≡ self.now.digits }
+        ensures { result.now ≡ self.now }
     {
         &self.digits
     }

@@ -1,0 +1,272 @@
+-- What is in the grammar is read.
+use Rattle.std.proofs.Common.{◌≡◌, ◌≢◌, ℕ, zero, suc, ◌<◌, ◌≤◌, Bool, true, false, cond, List, [], ◌∷◌, ◌++◌, length, Ok, Err, refl, sym, ap, ◌∙◌, subst, arith}
+use Rattle.std.specs.Prelude.{◌==◌}
+use Rattle.std.proofs.lemmas.Bool.{false_from_ne_true}
+use Rattle.std.proofs.lemmas.Bool.Decides.{nat_tests, Decides-eqb}
+use Rattle.project_json.specs.Tree.{Tree, number, text, list, object, trees_of, fields_of}
+use Rattle.project_json.specs.Grammar.{AllTrue, IsInt, lone_zero, nonzero_and, IsNumber, int_alone, minus_and, Blanks, is_blank, is_digit, is_nonzero_digit, is_unescaped, Chars, no_chars, char_and, Value, null_here, true_here, false_here, number_here, text_here, no_items_here, items_here, no_members_here, members_here, Spaced, spaced, Items, last_item, more_items, Members, last_member, more_members, Name, name_here, IsJson}
+use Rattle.project_json.specs.Reading.{syntax, Read, ◌>>=◌, skip, after_word, after_byte, digits, after_digits, int_at, digits_at, number_at, with_char, chars_at, value_with, mark_at, item_at, with_items, items_then, items_at, list_of, name_at, member_at, members_then, members_at, object_of, value_at, list_below, object_below, end_of, text_of}
+use Rattle.project_json.proofs.Lists.{value_at-is}
+use Rattle.project_json.proofs.Sizes.{blanks-le, chars-le, value-le}
+
+-- begins with no blank and no closing bracket
+abbrev Starts : List ℕ → Type 0
+Starts [] = ⊥
+Starts (b ∷ bs) = (is_blank b ≡ false) × (b ≢ 93) × (b ≢ 125)
+
+-- begins with no digit
+abbrev NoDigit : List ℕ → Type 0
+NoDigit [] = Unit {0}
+NoDigit (b ∷ bs) = is_digit b ≡ false
+
+-- begins with no blank
+abbrev NoBlank : List ℕ → Type 0
+NoBlank [] = Unit {0}
+NoBlank (b ∷ bs) = is_blank b ≡ false
+
+skip_front : (front new : List ℕ) → AllTrue is_blank front → NoBlank new → skip (front ++ new) ≡ new
+skip_front [] [] all ok = refl
+skip_front [] (b ∷ bs) all ok = ap (λ t. cond t (skip bs) (b ∷ bs)) ok
+skip_front (c ∷ cs) new all ok = ap (λ t. cond t (skip (cs ++ new)) (c ∷ cs ++ new)) all.0 ∙ skip_front cs new all.1 ok
+
+skips : {old new : List ℕ} → Blanks old new → NoBlank new → skip old ≡ new
+skips {new = new} g ok = ap skip g.2 ∙ skip_front g.0 new g.1 ok
+
+starts-blank : (bs : List ℕ) → Starts bs → NoBlank bs
+starts-blank [] s = tt
+starts-blank (b ∷ bs) s = s.0
+
+blank_no_digit : (b : ℕ) → is_blank b ≡ true → is_digit b ≡ false
+blank_no_digit b h = grind (arith, nat_tests)
+
+no_digit-front : (front new : List ℕ) → AllTrue is_blank front → NoDigit new → NoDigit (front ++ new)
+no_digit-front [] new all ok = ok
+no_digit-front (b ∷ bs) new all ok = blank_no_digit b all.0
+
+no_digit-before : {old new : List ℕ} → Blanks old new → NoDigit new → NoDigit old
+no_digit-before {new = new} g ok = subst NoDigit (sym g.2) (no_digit-front g.0 new g.1 ok)
+
+nonzero_starts : (d : ℕ) → is_nonzero_digit d ≡ true → (is_blank d ≡ false) × (d ≢ 93) × (d ≢ 125)
+nonzero_starts d h = (grind (arith, nat_tests), λ e. grind (arith, nat_tests), λ e. grind (arith, nat_tests))
+
+int_starts : {ds : List ℕ} (new : List ℕ) → IsInt ds → Starts (ds ++ new)
+int_starts new lone_zero = (refl, λ e. absurd (omega arith), λ e. absurd (omega arith))
+int_starts new (nonzero_and {d} {ds} h all) = nonzero_starts d h
+
+number_starts : {ds : List ℕ} (new : List ℕ) → IsNumber ds → Starts (ds ++ new)
+number_starts new (int_alone i) = int_starts new i
+number_starts new (minus_and i) = (refl, λ e. absurd (omega arith), λ e. absurd (omega arith))
+
+value-starts : {n : ℕ} {t : Tree} {old new : List ℕ} → Value n t old new → Starts old
+value-starts null_here = (refl, λ e. absurd (omega arith), λ e. absurd (omega arith))
+value-starts true_here = (refl, λ e. absurd (omega arith), λ e. absurd (omega arith))
+value-starts false_here = (refl, λ e. absurd (omega arith), λ e. absurd (omega arith))
+value-starts (number_here digits {old} {new} w e) = subst Starts (sym e) (number_starts new w)
+value-starts (text_here chars) = (refl, λ e. absurd (omega arith), λ e. absurd (omega arith))
+value-starts (no_items_here g) = (refl, λ e. absurd (omega arith), λ e. absurd (omega arith))
+value-starts (items_here ts is e) = (refl, λ e. absurd (omega arith), λ e. absurd (omega arith))
+value-starts (no_members_here g) = (refl, λ e. absurd (omega arith), λ e. absurd (omega arith))
+value-starts (members_here ms is e) = (refl, λ e. absurd (omega arith), λ e. absurd (omega arith))
+
+word_again : (word rest : List ℕ) → after_word word (word ++ rest) ≡ Ok rest
+word_again [] rest = refl
+word_again (w ∷ ws) rest = ap (λ t. cond t (after_word ws (ws ++ rest)) (Err (syntax (length (w ∷ ws ++ rest))))) ((Decides-eqb w w).1 refl) ∙ word_again ws rest
+
+unescaped_no_quote : (b : ℕ) → is_unescaped b ≡ true → (b == 34) ≡ false
+unescaped_no_quote b h = grind (arith, nat_tests)
+
+chars_again : {chars old new : List ℕ} → Chars chars old new → chars_at old ≡ Ok (chars, new)
+chars_again no_chars = refl
+chars_again (char_and {c} {cs} {old} {new} h more) =
+    ap (λ t. cond t (Ok ([], old)) (cond (is_unescaped c) (with_char c (chars_at old)) (Err (syntax (length (c ∷ old)))))) (unescaped_no_quote c h)
+    ∙ ap (λ t. cond t (with_char c (chars_at old)) (Err (syntax (length (c ∷ old))))) h
+    ∙ ap (with_char c) (chars_again more)
+
+digits_again : (ds rest : List ℕ) → AllTrue is_digit ds → NoDigit rest → (digits (ds ++ rest) ≡ ds) × (after_digits (ds ++ rest) ≡ rest)
+digits_again [] [] all ok = (refl, refl)
+digits_again [] (b ∷ bs) all ok = (ap (λ t. cond t (b ∷ digits bs) []) ok, ap (λ t. cond t (after_digits bs) (b ∷ bs)) ok)
+digits_again (d ∷ ds) rest all ok =
+    let more = digits_again ds rest all.1 ok in
+    (ap (λ t. cond t (d ∷ digits (ds ++ rest)) []) all.0 ∙ ap (λ xs. d ∷ xs) more.0, ap (λ t. cond t (after_digits (ds ++ rest)) (d ∷ ds ++ rest)) all.0 ∙ more.1)
+
+nonzero_no_zero : (d : ℕ) → is_nonzero_digit d ≡ true → (d == 48) ≡ false
+nonzero_no_zero d h = grind (arith, nat_tests)
+
+nonzero_no_minus : (d : ℕ) → is_nonzero_digit d ≡ true → (d == 45) ≡ false
+nonzero_no_minus d h = grind (arith, nat_tests)
+
+int_again : {ds : List ℕ} (rest : List ℕ) → IsInt ds → NoDigit rest → int_at (ds ++ rest) ≡ Ok (ds, rest)
+int_again rest lone_zero ok = refl
+int_again rest (nonzero_and {d} {ds} h all) ok =
+    let bs = ds ++ rest in
+    let more = digits_again ds rest all ok in
+    ap (λ t. cond t (Ok (48 ∷ [], bs)) (cond (is_nonzero_digit d) (Ok (d ∷ digits bs, after_digits bs)) (Err (syntax (length (d ∷ bs)))))) (nonzero_no_zero d h)
+    ∙ ap (λ t. cond t (Ok (d ∷ digits bs, after_digits bs)) (Err (syntax (length (d ∷ bs))))) h
+    ∙ ap (λ (xs : List ℕ). Ok (d ∷ xs, after_digits bs)) more.0
+    ∙ ap (λ (xs : List ℕ). Ok (d ∷ ds, xs)) more.1
+
+int_no_minus : {ds : List ℕ} (rest : List ℕ) → IsInt ds → digits_at (ds ++ rest) ≡ int_at (ds ++ rest)
+int_no_minus rest lone_zero = refl
+int_no_minus rest (nonzero_and {d} {ds} h all) = ap (λ t. cond t (with_char 45 (int_at (ds ++ rest))) (int_at (d ∷ ds ++ rest))) (nonzero_no_minus d h)
+
+number_again : {ds : List ℕ} (rest : List ℕ) → IsNumber ds → NoDigit rest → digits_at (ds ++ rest) ≡ Ok (ds, rest)
+number_again rest (int_alone i) ok = int_no_minus rest i ∙ int_again rest i ok
+number_again rest (minus_and i) ok = ap (with_char 45) (int_again rest i ok)
+
+mark_comma : (close : ℕ) (rest : List ℕ) → mark_at close (44 ∷ rest) ≡ Ok (true, rest)
+mark_comma close rest = refl
+
+mark_close : (close : ℕ) (rest : List ℕ) → (close == 44) ≡ false → mark_at close (close ∷ rest) ≡ Ok (false, rest)
+mark_close close rest ne =
+    ap (λ t. cond t (Ok (true, rest)) (cond (close == close) (Ok (false, rest)) (Err (syntax (length (close ∷ rest)))))) ne
+    ∙ ap (λ t. cond t (Ok (false, rest)) (Err (syntax (length (close ∷ rest))))) ((Decides-eqb close close).1 refl)
+
+name-short : {chars old new : List ℕ} → Name chars old new → length new ≤ length (skip old)
+name-short (name_here begin end f chars g) = let a = ap length (skips f refl) in let b = blanks-le g in let k = chars-le chars in omega (arith, a, b, k)
+
+name_again : {chars old new : List ℕ} → Name chars old new → name_at (skip old) ≡ Ok (chars, new)
+name_again {new = new} (name_here {name} begin end f chars g) =
+    ap name_at (skips f refl)
+    ∙ ap (λ r. r >>= (λ x. after_byte 58 (skip x.1) >>= (λ rest. Ok (x.0, rest)))) (chars_again chars)
+    ∙ ap (λ bs. after_byte 58 bs >>= (λ rest. Ok (name, rest))) (skips g refl)
+
+skip_twice : (bs : List ℕ) → skip (skip bs) ≡ skip bs
+skip_twice [] = refl
+skip_twice (b ∷ bs) = elim (is_blank b) as (λ t. is_blank b ≡ t → skip (cond t (skip bs) (b ∷ bs)) ≡ cond t (skip bs) (b ∷ bs)) [ true ↦ λ e. skip_twice bs | false ↦ λ e. ap (λ t. cond t (skip bs) (b ∷ bs)) e ] refl
+
+skip-le : (bs : List ℕ) → length (skip bs) ≤ length bs
+skip-le [] = omega arith
+skip-le (b ∷ bs) = elim (is_blank b) as (λ t. length (cond t (skip bs) (b ∷ bs)) ≤ length (b ∷ bs)) [ true ↦ (let k = skip-le bs in omega (arith, k)) | false ↦ omega arith ]
+
+spaced-starts : {n : ℕ} {t : Tree} {old new : List ℕ} → Spaced n t old new → Starts (skip old)
+spaced-starts (spaced begin end f v g) = subst Starts (sym (skips f (starts-blank begin (value-starts v)))) (value-starts v)
+
+items-starts : {n : ℕ} {ts : List Tree} {old new : List ℕ} → Items n ts old new → Starts (skip old)
+items-starts (last_item p) = spaced-starts p
+items-starts (more_items mid p is) = spaced-starts p
+
+name-starts : {chars old new : List ℕ} → Name chars old new → Starts (skip old)
+name-starts (name_here begin end f chars g) = subst Starts (sym (skips f refl)) (refl, λ e. absurd (omega arith), λ e. absurd (omega arith))
+
+members-starts : {n : ℕ} {before ms : List (List ℕ × Tree)} {old new : List ℕ} → Members n before ms old new → Starts (skip old)
+members-starts (last_member name t mid a p e) = name-starts a
+members-starts (more_members name t mid next a p ms) = name-starts a
+
+starts-length : (bs : List ℕ) → Starts bs → 0 < length bs
+starts-length [] s = absurd s
+starts-length (b ∷ bs) s = omega arith
+
+list_opens : (value : List ℕ → Read Tree) (bs : List ℕ) → Starts bs → list_of value bs ≡ items_at value (length bs) bs
+list_opens value [] s = absurd s
+list_opens value (b ∷ bs) s = ap (λ t. cond t (Ok ([], bs)) (items_at value (length (b ∷ bs)) (b ∷ bs))) (false_from_ne_true _ (λ e. s.1 ((Decides-eqb b 93).0 e)))
+
+object_opens : (value : List ℕ → Read Tree) (bs : List ℕ) → Starts bs → object_of value bs ≡ members_at value (length bs) [] bs
+object_opens value [] s = absurd s
+object_opens value (b ∷ bs) s = ap (λ t. cond t (Ok ([], bs)) (members_at value (length (b ∷ bs)) [] (b ∷ bs))) (false_from_ne_true _ (λ e. s.2 ((Decides-eqb b 125).0 e)))
+
+items_at-skip : (value : List ℕ → Read Tree) (k : ℕ) (bs : List ℕ) → 0 < k → items_at value k (skip bs) ≡ items_at value k bs
+unfolding items_at item_at
+items_at-skip value zero bs h = absurd (omega arith)
+items_at-skip value (suc k) bs h = ap (λ xs. (value xs >>= (λ x. mark_at 93 (skip x.1) >>= (λ y. Ok ((x.0, y.0), y.1)))) >>= items_then (items_at value k)) (skip_twice bs)
+
+members_at-skip : (value : List ℕ → Read Tree) (k : ℕ) (before : List (List ℕ × Tree)) (bs : List ℕ) → 0 < k → members_at value k before (skip bs) ≡ members_at value k before bs
+unfolding members_at member_at
+members_at-skip value zero before bs h = absurd (omega arith)
+members_at-skip value (suc k) before bs h = ap (λ xs. (name_at xs >>= (λ x. value (skip x.1) >>= (λ y. mark_at 125 (skip y.1) >>= (λ z. Ok (((x.0, y.0), z.0), z.1))))) >>= members_then (members_at value k) before) (skip_twice bs)
+
+item_again : (value : List ℕ → Read Tree) (bs : List ℕ) (t : Tree) (end new : List ℕ) (b : Bool) → value (skip bs) ≡ Ok (t, end) → mark_at 93 (skip end) ≡ Ok (b, new) → item_at value bs ≡ Ok ((t, b), new)
+unfolding item_at
+item_again value bs t end new b h m = ap (λ r. r >>= (λ x. mark_at 93 (skip x.1) >>= (λ y. Ok ((x.0, y.0), y.1)))) h ∙ ap (λ r. r >>= (λ y. Ok ((t, y.0), y.1))) m
+
+items_turn : (value : List ℕ → Read Tree) (k : ℕ) (bs : List ℕ) (t : Tree) (b : Bool) (new : List ℕ) → item_at value bs ≡ Ok ((t, b), new) → items_at value (suc k) bs ≡ items_then (items_at value k) ((t, b), new)
+unfolding items_at
+items_turn value k bs t b new h = ap (λ r. r >>= items_then (items_at value k)) h
+
+member_again : (value : List ℕ → Read Tree) (bs : List ℕ) (name mid : List ℕ) (t : Tree) (end new : List ℕ) (b : Bool) → name_at (skip bs) ≡ Ok (name, mid) → value (skip mid) ≡ Ok (t, end) → mark_at 125 (skip end) ≡ Ok (b, new) → member_at value bs ≡ Ok (((name, t), b), new)
+unfolding member_at
+member_again value bs name mid t end new b n h m =
+    ap (λ r. r >>= (λ x. value (skip x.1) >>= (λ y. mark_at 125 (skip y.1) >>= (λ z. Ok (((x.0, y.0), z.0), z.1))))) n
+    ∙ ap (λ r. r >>= (λ y. mark_at 125 (skip y.1) >>= (λ z. Ok (((name, y.0), z.0), z.1)))) h
+    ∙ ap (λ r. r >>= (λ z. Ok (((name, t), z.0), z.1))) m
+
+members_turn : (value : List ℕ → Read Tree) (k : ℕ) (before : List (List ℕ × Tree)) (bs : List ℕ) (name : List ℕ) (t : Tree) (b : Bool) (new : List ℕ) → member_at value bs ≡ Ok (((name, t), b), new) → members_at value (suc k) before bs ≡ members_then (members_at value k) before (((name, t), b), new)
+unfolding members_at
+members_turn value k before bs name t b new h = ap (λ r. r >>= members_then (members_at value k) before) h
+
+-- a byte that begins no other value
+abbrev BeginsNumber : ℕ → Type 0
+BeginsNumber b = ((b == 110) ≡ false) × ((b == 116) ≡ false) × ((b == 102) ≡ false) × ((b == 34) ≡ false) × ((b == 91) ≡ false) × ((b == 123) ≡ false)
+
+with_number : (items : List ℕ → Read (List Tree)) (members : List ℕ → Read (List (List ℕ × Tree))) (b : ℕ) (bs : List ℕ) → BeginsNumber b → value_with items members (b ∷ bs) ≡ number_at (b ∷ bs)
+with_number items members b bs h = rw (h.0, h.1, h.2, h.3, h.4, h.5) refl
+
+nonzero_begins : (d : ℕ) → is_nonzero_digit d ≡ true → BeginsNumber d
+nonzero_begins d h = (grind (arith, nat_tests), grind (arith, nat_tests), grind (arith, nat_tests), grind (arith, nat_tests), grind (arith, nat_tests), grind (arith, nat_tests))
+
+with_digits : (items : List ℕ → Read (List Tree)) (members : List ℕ → Read (List (List ℕ × Tree))) {ds : List ℕ} (new : List ℕ) → IsNumber ds → value_with items members (ds ++ new) ≡ number_at (ds ++ new)
+with_digits items members new (int_alone lone_zero) = refl
+with_digits items members new (int_alone (nonzero_and {d} {ds} h all)) = with_number items members d (ds ++ new) (nonzero_begins d h)
+with_digits items members new (minus_and i) = refl
+
+-- each form of a value is read, where no digit follows it
+mutual
+  value_again : {n : ℕ} {t : Tree} {old new : List ℕ} → Value n t old new → NoDigit new → value_at n old ≡ Ok (t, new)
+  value_again (null_here {n} {new}) ok = sym (value_at-is n (110 ∷ 117 ∷ 108 ∷ 108 ∷ new))
+  value_again (true_here {n} {new}) ok = sym (value_at-is n (116 ∷ 114 ∷ 117 ∷ 101 ∷ new))
+  value_again (false_here {n} {new}) ok = sym (value_at-is n (102 ∷ 97 ∷ 108 ∷ 115 ∷ 101 ∷ new))
+  value_again (number_here {n} ds {old} {new} w e) ok =
+      ap (value_at n) e ∙ sym (value_at-is n (ds ++ new)) ∙ with_digits (list_below n) (object_below n) new w ∙ ap (λ r. r >>= (λ x. Ok (number x.0, x.1))) (number_again new w ok)
+  value_again (text_here {n} {chars} {old} {new} h) ok =
+      sym (value_at-is n (34 ∷ old)) ∙ ap (λ r. r >>= (λ x. Ok (text x.0, x.1))) (chars_again h)
+  value_again (no_items_here {n} {old} {new} g) ok =
+      sym (value_at-is (suc n) (91 ∷ old)) ∙ ap (λ bs. list_of (value_at n) bs >>= (λ x. Ok (list (trees_of x.0), x.1))) (skips g refl)
+  value_again (items_here {n} ts {old} {new} is e) ok =
+      sym (value_at-is (suc n) (91 ∷ old))
+      ∙ ap (λ r. r >>= (λ x. Ok (list (trees_of x.0), x.1)))
+      (list_opens (value_at n) (skip old) (items-starts is) ∙ items_at-skip (value_at n) (length (skip old)) old (starts-length (skip old) (items-starts is)) ∙ items_again is (length (skip old)) (omega arith))
+      ∙ ap (λ (t : Tree). Ok (t, new)) (sym e)
+  value_again (no_members_here {n} {old} {new} g) ok =
+      sym (value_at-is (suc n) (123 ∷ old)) ∙ ap (λ bs. object_of (value_at n) bs >>= (λ x. Ok (object (fields_of x.0), x.1))) (skips g refl)
+  value_again (members_here {n} ms {old} {new} is e) ok =
+      sym (value_at-is (suc n) (123 ∷ old))
+      ∙ ap (λ r. r >>= (λ x. Ok (object (fields_of x.0), x.1)))
+      (object_opens (value_at n) (skip old) (members-starts is) ∙ members_at-skip (value_at n) (length (skip old)) [] old (starts-length (skip old) (members-starts is)) ∙ members_again is (length (skip old)) (omega arith))
+      ∙ ap (λ (t : Tree). Ok (t, new)) (sym e)
+
+  spaced_again : {n : ℕ} {t : Tree} {old new : List ℕ} → Spaced n t old new → NoDigit new → NoBlank new → (end : List ℕ) × (value_at n (skip old) ≡ Ok (t, end)) × (skip end ≡ new) × (length new ≤ length (skip old))
+  spaced_again {n} {t} {old} {new} (spaced begin end f v g) ok nb =
+      let e = skips f (starts-blank begin (value-starts v)) in
+      (end, ap (value_at n) e ∙ value_again v (no_digit-before g ok), skips g nb, (let a = ap length e in let b = value-le v in let c = blanks-le g in omega (arith, a, b, c)))
+
+  items_again : {n : ℕ} {ts : List Tree} {old new : List ℕ} → Items n ts old new → (k : ℕ) → length (skip old) ≤ k → items_at (value_at n) k old ≡ Ok (ts, new)
+  items_again (last_item {n} {t} {old} {new} p) zero h = absurd (let s = starts-length _ (spaced-starts p) in omega (arith, s))
+  items_again (last_item {n} {t} {old} {new} p) (suc k) h =
+      let r = spaced_again p refl refl in
+      items_turn (value_at n) k old t false new (item_again (value_at n) old t r.0 new false r.1 (ap (mark_at 93) r.2 ∙ mark_close 93 new refl))
+  items_again (more_items {n} {t} {ts} {old} {new} mid p is) zero h = absurd (let s = starts-length _ (spaced-starts p) in omega (arith, s))
+  items_again (more_items {n} {t} {ts} {old} {new} mid p is) (suc k) h =
+      let r = spaced_again p refl refl in
+      items_turn (value_at n) k old t true mid (item_again (value_at n) old t r.0 mid true r.1 (ap (mark_at 93) r.2))
+      ∙ ap (with_items (t ∷ [])) (items_again is k (let a = skip-le mid in let b = r.3 in omega (arith, a, b)))
+
+  members_again : {n : ℕ} {before ms : List (List ℕ × Tree)} {old new : List ℕ} → Members n before ms old new → (k : ℕ) → length (skip old) ≤ k → members_at (value_at n) k before old ≡ Ok (ms, new)
+  members_again (last_member {n} {ms} name t {before} {old} {new} mid a p e) zero h = absurd (let s = starts-length _ (name-starts a) in omega (arith, s))
+  members_again (last_member {n} {ms} name t {before} {old} {new} mid a p e) (suc k) h =
+      let r = spaced_again p refl refl in
+      members_turn (value_at n) k before old name t false new (member_again (value_at n) old name mid t r.0 new false (name_again a) r.1 (ap (mark_at 125) r.2 ∙ mark_close 125 new refl))
+      ∙ ap (λ (xs : List (List ℕ × Tree)). Ok (xs, new)) (sym e)
+  members_again (more_members {n} {ms} name t {before} {old} {new} mid next a p is) zero h = absurd (let s = starts-length _ (name-starts a) in omega (arith, s))
+  members_again (more_members {n} {ms} name t {before} {old} {new} mid next a p is) (suc k) h =
+      let r = spaced_again p refl refl in
+      members_turn (value_at n) k before old name t true next (member_again (value_at n) old name mid t r.0 next true (name_again a) r.1 (ap (mark_at 125) r.2))
+      ∙ members_again is k (let x = skip-le next in let y = skip-le mid in let z = name-short a in let w = r.3 in omega (arith, x, y, z, w))
+
+-- a JSON text is read
+pub text_again : (n : ℕ) (bs : List ℕ) (t : Tree) → IsJson n bs t → text_of n bs ≡ Ok t
+text_again n bs t p =
+    let r = spaced_again p tt tt in
+    ap (λ r. r >>= (λ x. end_of x.0 (skip x.1))) r.1 ∙ ap (end_of t) r.2
+
+-- a text is read as one tree
+pub IsJson-one_tree : (n : ℕ) (bs : List ℕ) (t u : Tree) → IsJson n bs t → IsJson n bs u → t ≡ u
+IsJson-one_tree n bs t u p q = let a = text_again n bs t p in let b = text_again n bs u q in cc

@@ -1,0 +1,198 @@
+//! Reads JSON texts.
+
+ghost use Rattle.std.specs.Prelude.{◌≡◌, ◌≤◌, map, [], length, Result, IfOk, IfErr, MatchResult};
+ghost use Rattle.project_json.specs.Grammar.{IsJson};
+ghost use Rattle.project_json.specs.Reading.{Gives, value_with, value_at, list_below, item_at, items_at, object_below, member_at, members_at, text_of};
+ghost use Rattle.project_json.specs.Refusal.{IsCause};
+ghost use Rattle.project_json.specs.Size.{size_of};
+ghost use Rattle.project_json.specs.Tree.{Tree};
+ghost use Rattle.project_json.specs.View.{tree, field};
+
+use crate::json::{Items, Json, Member, Members};
+use crate::member_list::MemberList;
+use crate::numbers::number_of;
+use crate::refusal::JsonRefusal;
+use crate::scanning::{after_word, mark, skip};
+use crate::stop::Stop;
+use crate::strings::{chars_of, name_of};
+use crate::text::Text;
+use std::alloc::Global;
+
+/// How deep brackets and braces may nest.
+const MAX_DEPTH: u32 = 256;
+
+// A value, with at most so many brackets open at once, and the bytes after it.
+#[cycle(value)]
+#[tactic(auto, using(crate::proofs::Lists::depth_rules))]
+fn value(alloc: Global, depth: u32, bytes: &[u8]) -> Result<(Json, &[u8]), Stop>
+    ensures { Gives (λ x. (tree x.0, x.1.now)) result (value_with (list_below depth) (object_below depth) bytes.now) }
+{
+    match bytes {
+        [b'n', rest @ ..] => {
+            let rest = after_word(rest, b"ull")?;
+            Ok((Json::Null, rest))
+        }
+        [b't', rest @ ..] => {
+            let rest = after_word(rest, b"rue")?;
+            Ok((Json::Truth(true), rest))
+        }
+        [b'f', rest @ ..] => {
+            let rest = after_word(rest, b"alse")?;
+            Ok((Json::Truth(false), rest))
+        }
+        [b'"', rest @ ..] => {
+            let (text, rest) = chars_of(alloc, rest)?;
+            Ok((Json::Text(text), rest))
+        }
+        [b'[', rest @ ..] => {
+            let (items, rest) = list(alloc, depth, rest)?;
+            Ok((Json::List(Items::new(items)), rest))
+        }
+        [b'{', rest @ ..] => {
+            let (members, rest) = object(alloc, depth, rest)?;
+            Ok((Json::Object(Members::new(members)), rest))
+        }
+        _ => number_of(alloc, bytes),
+    }
+}
+
+// The items behind an opening bracket.
+#[cycle(value)]
+#[tactic(auto, using(crate::proofs::Lists::depth_rules))]
+fn list(alloc: Global, depth: u32, bytes: &[u8]) -> Result<(Vec<Json>, &[u8]), Stop>
+    ensures { Gives (λ x. (map tree x.0.items, x.1.now)) result (list_below depth bytes.now) }
+{
+    if depth == 0 {
+        return Err(Stop::Syntax {
+            left: bytes.len() + 1,
+        });
+    }
+    let bytes = skip(bytes);
+    match bytes {
+        [] => Err(Stop::Syntax { left: 0 }),
+        [b, rest @ ..] => {
+            if *b == b']' {
+                return Ok((Vec::new(alloc), rest));
+            }
+            items(alloc, depth - 1, bytes)
+        }
+    }
+}
+
+// An item, and whether another follows.
+#[cycle(value)]
+#[tactic(auto, using(crate::proofs::Lists::depth_rules), unfolding(crate::specs::Reading::item_at))]
+fn item(alloc: Global, depth: u32, bytes: &[u8]) -> Result<((Json, bool), &[u8]), Stop>
+    ensures { Gives (λ x. ((tree x.0.0, x.0.1), x.1.now)) result (item_at (value_at depth) bytes.now) }
+{
+    let (item, rest) = value(alloc, depth, skip(bytes))?;
+    let (has_more, rest) = mark(skip(rest), b']')?;
+    Ok(((item, has_more), rest))
+}
+
+// One item or more.
+#[cycle(value)]
+#[tactic(auto, using(crate::proofs::Lists::items_rules))]
+fn items(alloc: Global, depth: u32, bytes: &[u8]) -> Result<(Vec<Json>, &[u8]), Stop>
+    ensures { Gives (λ x. (map tree x.0.items, x.1.now)) result (items_at (value_at depth) (length bytes.now) bytes.now) }
+{
+    let mut items = Vec::new(alloc);
+    let mut rest = bytes;
+    for _ in 0..bytes.len() {
+        let ((item, has_more), after) = item(alloc, depth, rest)?;
+        items.push(item)?;
+        if !has_more {
+            return Ok((items, after));
+        }
+        rest = after;
+    }
+    Err(Stop::Syntax { left: rest.len() })
+}
+
+// The members behind an opening brace.
+#[cycle(value)]
+#[tactic(auto, using(crate::proofs::Lists::depth_rules))]
+fn object(alloc: Global, depth: u32, bytes: &[u8]) -> Result<(Vec<Member>, &[u8]), Stop>
+    ensures { Gives (λ x. (map field x.0.items, x.1.now)) result (object_below depth bytes.now) }
+{
+    if depth == 0 {
+        return Err(Stop::Syntax {
+            left: bytes.len() + 1,
+        });
+    }
+    let bytes = skip(bytes);
+    match bytes {
+        [] => Err(Stop::Syntax { left: 0 }),
+        [b, rest @ ..] => {
+            if *b == b'}' {
+                return Ok((Vec::new(alloc), rest));
+            }
+            members(alloc, depth - 1, bytes)
+        }
+    }
+}
+
+// A member, and whether another follows.
+#[cycle(value)]
+#[tactic(auto, using(crate::proofs::Lists::depth_rules), unfolding(crate::specs::Reading::member_at))]
+fn member(alloc: Global, depth: u32, bytes: &[u8]) -> Result<((Text, Json, bool), &[u8]), Stop>
+    ensures { Gives (λ x. (((x.0.0, tree x.0.1), x.0.2), x.1.now)) result (member_at (value_at depth) bytes.now) }
+{
+    let (name, rest) = name_of(alloc, skip(bytes))?;
+    let (value, rest) = value(alloc, depth, skip(rest))?;
+    let (has_more, rest) = mark(skip(rest), b'}')?;
+    Ok(((name, value, has_more), rest))
+}
+
+// One member or more.
+#[cycle(value)]
+#[tactic(auto, using(crate::proofs::Lists::members_rules))]
+fn members(alloc: Global, depth: u32, bytes: &[u8]) -> Result<(Vec<Member>, &[u8]), Stop>
+    ensures { Gives (λ x. (map field x.0.items, x.1.now)) result (members_at (value_at depth) (length bytes.now) [] bytes.now) }
+{
+    let mut list = MemberList::new(alloc);
+    let mut rest = bytes;
+    for _ in 0..bytes.len() {
+        let ((name, value, has_more), after) = member(alloc, depth, rest)?;
+        list = list.put(alloc, name, value)?;
+        if !has_more {
+            return Ok((list.into_members(), after));
+        }
+        rest = after;
+    }
+    Err(Stop::Syntax { left: rest.len() })
+}
+
+// The whole bytes as one value with blanks round it.
+#[tactic(auto, using(crate::proofs::Lists::text_rules))]
+fn text(alloc: Global, bytes: &[u8]) -> Result<Json, Stop>
+    ensures { Gives tree result (text_of 256 bytes.now) }
+{
+    let (value, rest) = value(alloc, MAX_DEPTH, skip(bytes))?;
+    let rest = skip(rest);
+    if !rest.is_empty() {
+        return Err(Stop::Syntax { left: rest.len() });
+    }
+    Ok(value)
+}
+
+/// Reads a JSON text (RFC 8259) whose brackets and braces nest at most 256 deep, whose bytes are
+/// below 128, and that has no escape in a string and no fraction and no exponent in a number.
+/// A byte order mark is no white space. A repeated name keeps its earlier place and takes the later
+/// value. `Syntax` comes exactly where the bytes are no such text.
+pub fn read(alloc: Global, bytes: &[u8]) -> Result<Json, JsonRefusal>
+    // What is read is a JSON text of that tree.
+    ensures found { IfOk result (λ t. IsJson 256 bytes.now (tree t)) }
+    // A JSON text is read as its tree, unless memory runs out.
+    ensures only { (t : Tree) → IsJson 256 bytes.now t → MatchResult result (λ read. tree read ≡ t) (λ e. e ≡ JsonRefusal.NoMemory) }
+    ensures refused { IfErr result (IsCause 256 bytes.now) }
+    ensures small { IfOk result (λ t. size_of (tree t) ≤ length bytes.now) }
+{
+    match text(alloc, bytes) {
+        Ok(json) => Ok(json),
+        Err(Stop::Syntax { left }) => Err(JsonRefusal::Syntax {
+            at: bytes.len().saturating_sub(left),
+        }),
+        Err(Stop::NoMemory) => Err(JsonRefusal::NoMemory),
+    }
+}
