@@ -11,3 +11,6 @@ pub use first::{
 };
 pub use style::Style;
 pub use texts::Texts;
+
+#[cfg(test)]
+mod tests;

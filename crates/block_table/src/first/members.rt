@@ -79,13 +79,6 @@ pub(crate) fn required_text<'a>(json: &'a Json, name: &str) -> Result<&'a Text, 
     text(value)
 }
 
-pub(crate) fn required_truth(json: &Json, name: &str) -> Result<bool, FirstRefusal>
-    ensures { Reads (λ b. b) result (required truth_in name.now (tree json.now)) }
-{
-    let value = required(json, name)?;
-    truth(value)
-}
-
 pub(crate) fn required_items<'a>(json: &'a Json, name: &str) -> Result<&'a [Json], FirstRefusal>
     ensures { Reads (λ js. map tree js.now) result (required items_in name.now (tree json.now)) }
 {
