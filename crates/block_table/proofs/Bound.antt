@@ -1,9 +1,9 @@
 -- What a reading that went well went through.
-use Rattle.std.proofs.Common.{◌≡◌, ℕ, zero, suc, ◌+◌, ◌<◌, Bool, true, false, cond, List, [], ◌∷◌, length, map, sum_by, count_by, Option, Some, None, refl, sym, ap, ◌∙◌, subst, arith, nat_lt}
+use Rattle.std.proofs.Common.{◌≡◌, ℕ, zero, suc, ◌+◌, ◌<◌, Bool, true, false, cond, List, [], ◌∷◌, length, map, sum_by, Option, Some, None, refl, sym, ap, ◌∙◌, subst, arith, nat_lt}
 use Rattle.std.specs.List.{slice_get, position, position_or_len, fold}
 use Rattle.std.proofs.lemmas.Bool.Decides.{nat_tests}
 use Rattle.std.proofs.lemmas.List.Sums.{sum_by-cons}
-use Rattle.block_table.specs.FirstForm.{◌>>=◌, fitting, each, optional}
+use Rattle.block_table.specs.FirstForm.{◌>>=◌, fitting, each}
 
 -- both steps went well
 pub record Bound {A B : Type 0} (o : Option A) (f : A → Option B) (b : B) : Type 0 where

@@ -12,7 +12,7 @@ use Rattle.block_table.specs.declared.first.types.FirstCode.{FirstCode}
 use Rattle.block_table.specs.declared.first.types.FirstCode.TheVariants.{Flag, Set, Change}
 use Rattle.block_table.specs.FirstProject.{ActsWithin, IsCommand, AreLinked}
 use Rattle.block_table.specs.FirstForm.{◌>>=◌, fitting, required, defaulted, given, optional, present, opcode_of, is_command, place_named, later_command, next_of, only_named, two_in, field_in, literal_in, operands_of, code_of, block_of, blocks_from, blocks_of}
-use Rattle.block_table.proofs.Bound.{Bound, bound, Fits, fit, some-same, position-lt}
+use Rattle.block_table.proofs.Bound.{bound, fit, some-same, position-lt}
 
 -- Links
 
@@ -115,9 +115,9 @@ abbrev Members : Type 0
 Members = List (List ℕ × Tree)
 
 block-by : (ids : List (List ℕ)) (ms : Members) (i : ℕ) (t : Tree) (b : FirstBlock) (o1 : Option (List ℕ)) (o2 : Option (Option ℕ)) (o3 o4 : Option Members) (o5 o6 : Option Bool) (o7 : Option Members)
-  → o1 ≡ opcode_of t → o2 ≡ next_of ms i t
-  → o1 >>= (λ opcode. o2 >>= (λ next. o3 >>= (λ inputs. o4 >>= (λ fields. o5 >>= (λ shadow. o6 >>= (λ top_level. o7 >>= (λ mutation. code_of ids opcode t >>= (λ code. let r : FirstBlock = record { code = code; next = next; top_level = top_level } in Some r)))))))) ≡ Some b
-  → IsBlock ids ms i t b
+    → o1 ≡ opcode_of t → o2 ≡ next_of ms i t
+    → o1 >>= (λ opcode. o2 >>= (λ next. o3 >>= (λ inputs. o4 >>= (λ fields. o5 >>= (λ shadow. o6 >>= (λ top_level. o7 >>= (λ mutation. code_of ids opcode t >>= (λ code. let r : FirstBlock = record { code = code; next = next; top_level = top_level } in Some r)))))))) ≡ Some b
+    → IsBlock ids ms i t b
 block-by ids ms i t b None o2 o3 o4 o5 o6 o7 e f h = cc
 block-by ids ms i t b (Some x1) None o3 o4 o5 o6 o7 e f h = cc
 block-by ids ms i t b (Some x1) (Some x2) None o4 o5 o6 o7 e f h = cc

@@ -1,15 +1,15 @@
 -- How much a document has to hold for what is read of it.
-use Rattle.std.proofs.Common.{◌≡◌, ℕ, suc, ◌+◌, ◌<◌, ◌≤◌, Bool, true, false, cond, List, [], ◌∷◌, ◌++◌, length, map, sum_by, Option, Some, None, codes, refl, sym, ap, ◌∙◌, subst, arith}
+use Rattle.std.proofs.Common.{◌≡◌, ℕ, ◌+◌, ◌≤◌, Bool, true, false, cond, List, [], ◌∷◌, length, Option, Some, None, codes, refl, ap, ◌∙◌, subst, arith}
 use Rattle.std.specs.Str.{bytes_eq}
 use Rattle.std.specs.List.{flat_map}
-use Rattle.std.proofs.lemmas.List.{length-append, length-map}
+use Rattle.std.proofs.lemmas.List.{length-append}
 use Rattle.project_json.specs.Tree.{Tree, null, truth, number, text, list, object, Trees, no_trees, tree_and, Fields, no_fields, field_and, tree_list, field_list}
-use Rattle.project_json.specs.Parts.{value_named, member_of, members_in, items_in, text_in, truth_in, is_null}
+use Rattle.project_json.specs.Parts.{value_named, member_of, members_in, items_in, truth_in, is_null}
 use Rattle.project_json.specs.Size.{size_of, items_size, members_size}
 use Rattle.block_table.specs.declared.first.types.FirstTarget.{FirstTarget}
 use Rattle.block_table.specs.declared.first.types.FirstVariable.{FirstVariable}
 use Rattle.block_table.specs.FirstForm.{◌>>=◌, each, required, defaulted, optional, present, of_stage, variable_of, variables_of, lists_of, target_of, Sheet, sheet_of, sheets_in}
-use Rattle.block_table.proofs.Bound.{Bound, bound, some-same, each-length}
+use Rattle.block_table.proofs.Bound.{bound, some-same, each-length}
 
 field_list-length : (ms : Fields) → length (field_list ms) ≤ members_size ms
 field_list-length no_fields = omega arith

@@ -1,7 +1,7 @@
 -- What is true of each project of the first form.
-use Rattle.std.proofs.Common.{◌≡◌, ℕ, ◌+◌, ◌<◌, ◌≤◌, ◌^◌, Bool, true, false, cond, List, [], ◌∷◌, length, map, sum_by, count_by, Option, Some, None, ℤ, pos, negsuc, codes, refl, sym, ap, ◌∙◌, subst, arith, nat_lt, nat_le, nat_eq, ◌&&◌}
+use Rattle.std.proofs.Common.{◌≡◌, ℕ, ◌<◌, ◌≤◌, ◌^◌, Bool, true, false, cond, List, [], ◌∷◌, length, map, sum_by, count_by, Option, Some, None, ℤ, pos, negsuc, codes, refl, sym, ap, ◌∙◌, subst, arith, nat_lt, nat_le, nat_eq, ◌&&◌}
 use Rattle.std.specs.Str.{bytes_eq}
-use Rattle.std.specs.List.{slice_get, position, flat_map}
+use Rattle.std.specs.List.{slice_get, position}
 use Rattle.std.proofs.lemmas.Bool.Decides.{nat_tests}
 use Rattle.std.proofs.lemmas.List.{length-map}
 use Rattle.project_json.specs.Tree.{Tree}
@@ -13,10 +13,10 @@ use Rattle.block_table.specs.declared.first.types.FirstTarget.{FirstTarget}
 use Rattle.block_table.specs.declared.first.types.FirstBlock.{FirstBlock}
 use Rattle.block_table.specs.declared.first.types.FirstVariable.{FirstVariable}
 use Rattle.block_table.specs.declared.first.types.FirstMonitor.{FirstMonitor}
-use Rattle.block_table.specs.FirstProject.{Project, AreLinked, IsWell}
-use Rattle.block_table.specs.FirstForm.{◌>>=◌, fitting, each, required, defaulted, optional, present, number_in, place_by, place_in, style_in, some_of, costumes_of, Look, look_of, look_by, Sheet, target_of, sheet_of, no_member, variable_opcode_of, monitor_of, Parts, parts_of, are_fit, sheets_in, parts_in, monitors_in, ids_of, blocks_of, linked_in, project_of}
-use Rattle.block_table.proofs.Bound.{Bound, bound, Fits, fit, some-same, Found, each-length, each-found, each-sum, sum_by-map, From, map-from, position-lt}
-use Rattle.block_table.proofs.Sizes.{Parted, parted, sheets_in-size}
+use Rattle.block_table.specs.FirstProject.{AreLinked, IsWell}
+use Rattle.block_table.specs.FirstForm.{◌>>=◌, fitting, each, required, defaulted, optional, present, number_in, place_by, place_in, style_in, some_of, costumes_of, Look, look_of, look_by, Sheet, target_of, sheet_of, no_member, variable_opcode_of, monitor_of, Parts, parts_of, are_fit, sheets_in, parts_in, monitors_in, ids_of, blocks_of, linked_in}
+use Rattle.block_table.proofs.Bound.{bound, fit, some-same, each-length, each-found, each-sum, sum_by-map, map-from, position-lt}
+use Rattle.block_table.proofs.Sizes.{parted, sheets_in-size}
 use Rattle.block_table.proofs.Linked.{blocks-length, linked}
 
 -- Costumes
@@ -45,8 +45,8 @@ costumes-some t names h =
 
 -- a target is made with these costumes and this costume
 target-by : (b : Bool) (name : Option (List ℕ)) (costumes : List (List ℕ)) (costume : Option ℕ) (layer volume : Option ℤ) (look : Option Look) (style : Option Style) (n : List ℕ) (t : FirstTarget)
-  → costume >>= (λ costume. layer >>= (λ layer_order. volume >>= (λ volume. look >>= (λ look. style >>= (λ style. let seen = look_by b look in let r : FirstTarget = record { is_stage = b; name = n; costumes = costumes; costume = costume; layer_order = layer_order; visible = seen.visible; x = seen.x; y = seen.y; size = seen.size; direction = seen.direction; style = style } in Some r))))) ≡ Some t
-  → (costume ≡ Some t.costume) × (costumes ≡ t.costumes)
+    → costume >>= (λ costume. layer >>= (λ layer_order. volume >>= (λ volume. look >>= (λ look. style >>= (λ style. let seen = look_by b look in let r : FirstTarget = record { is_stage = b; name = n; costumes = costumes; costume = costume; layer_order = layer_order; visible = seen.visible; x = seen.x; y = seen.y; size = seen.size; direction = seen.direction; style = style } in Some r))))) ≡ Some t
+    → (costume ≡ Some t.costume) × (costumes ≡ t.costumes)
 target-by b name costumes None layer volume look style n t h = cc
 target-by b name costumes (Some c) None volume look style n t h = cc
 target-by b name costumes (Some c) (Some l) None look style n t h = cc
@@ -62,8 +62,8 @@ target-costumed : (b : Bool) (t : Tree) (x : FirstTarget) → target_of b t ≡ 
 target-costumed b t x h = by (required text_in (codes "name") t) (costumes_of t) refl h
   where
     by : (name : Option (List ℕ)) (costumes : Option (List (List ℕ))) → costumes ≡ costumes_of t
-      → name >>= (λ name. costumes >>= (λ costumes. defaulted (place_in (length costumes)) 0 (codes "currentCostume") t >>= (λ costume. defaulted number_in (pos 0) (codes "layerOrder") t >>= (λ layer_order. defaulted number_in (pos 100) (codes "volume") t >>= (λ volume. look_of t >>= (λ look. defaulted style_in AllAround (codes "rotationStyle") t >>= (λ style. let seen = look_by b look in let r : FirstTarget = record { is_stage = b; name = name; costumes = costumes; costume = costume; layer_order = layer_order; visible = seen.visible; x = seen.x; y = seen.y; size = seen.size; direction = seen.direction; style = style } in Some r))))))) ≡ Some x
-      → x.costume < length x.costumes
+        → name >>= (λ name. costumes >>= (λ costumes. defaulted (place_in (length costumes)) 0 (codes "currentCostume") t >>= (λ costume. defaulted number_in (pos 0) (codes "layerOrder") t >>= (λ layer_order. defaulted number_in (pos 100) (codes "volume") t >>= (λ volume. look_of t >>= (λ look. defaulted style_in AllAround (codes "rotationStyle") t >>= (λ style. let seen = look_by b look in let r : FirstTarget = record { is_stage = b; name = name; costumes = costumes; costume = costume; layer_order = layer_order; visible = seen.visible; x = seen.x; y = seen.y; size = seen.size; direction = seen.direction; style = style } in Some r))))))) ≡ Some x
+        → x.costume < length x.costumes
     by None cs e k = cc
     by (Some n) None e k = cc
     by (Some n) (Some cs) e k =
@@ -73,8 +73,8 @@ target-costumed b t x h = by (required text_in (codes "name") t) (costumes_of t)
 -- Monitors
 
 monitor-by : (ids : List (List ℕ)) (o1 o2 : Option (List ℕ)) (o3 : Option (Unit {0})) (o4 : Option Bool) (o5 : Option (List (List ℕ × Tree))) (m : FirstMonitor) (v : ℕ)
-  → o1 >>= (λ id. o2 >>= (λ opcode. o3 >>= (λ sprite. o4 >>= (λ visible. o5 >>= (λ params. let r : FirstMonitor = record { visible = visible; variable = position (λ other. bytes_eq other id) ids } in Some r))))) ≡ Some m
-  → m.variable ≡ Some v → v < length ids
+    → o1 >>= (λ id. o2 >>= (λ opcode. o3 >>= (λ sprite. o4 >>= (λ visible. o5 >>= (λ params. let r : FirstMonitor = record { visible = visible; variable = position (λ other. bytes_eq other id) ids } in Some r))))) ≡ Some m
+    → m.variable ≡ Some v → v < length ids
 monitor-by ids None o2 o3 o4 o5 m v h e = cc
 monitor-by ids (Some id) None o3 o4 o5 m v h e = cc
 monitor-by ids (Some id) (Some x2) None o4 o5 m v h e = cc

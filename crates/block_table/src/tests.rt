@@ -4,17 +4,23 @@ use std::alloc::Global;
 use std::test::Fail;
 
 // The stage of the base file.
-const STAGE: &str = "{\"isStage\":true,\"name\":\"Stage\",\"variables\":{\"v\":[\"n\",0]},\"lists\":{\"k\":[\"l\",[]]},\"broadcasts\":{},\"blocks\":{},\"comments\":{},\"currentCostume\":0,\"costumes\":[{\"name\":\"b1\",\"dataFormat\":\"svg\",\"assetId\":\"0\",\"md5ext\":\"0.svg\",\"rotationCenterX\":240,\"rotationCenterY\":180}],\"sounds\":[{\"name\":\"pop\",\"assetId\":\"1\",\"dataFormat\":\"wav\",\"md5ext\":\"1.wav\"}],\"volume\":100,\"layerOrder\":0,\"tempo\":60}";
+const STAGE: &str =
+    "{\"isStage\":true,\"name\":\"Stage\",\"variables\":{\"v\":[\"n\",0]},\"lists\":{\"k\":[\"l\",[]]},\"broadcasts\":{},\"blocks\":{},\"comments\":{},\"currentCostume\":0,\"costumes\":[{\"name\":\"b1\",\"dataFormat\":\"svg\",\"assetId\":\"0\",\"md5ext\":\"0.svg\",\"rotationCenterX\":240,\"rotationCenterY\":180}],\"sounds\":[{\"name\":\"pop\",\"assetId\":\"1\",\"dataFormat\":\"wav\",\"md5ext\":\"1.wav\"}],\"volume\":100,\"layerOrder\":0,\"tempo\":60}";
 
 // The sprite of the base file, as far as its blocks and behind them.
-const CAT: &str = "{\"isStage\":false,\"name\":\"Cat\",\"variables\":{},\"lists\":{},\"broadcasts\":{},\"blocks\":";
-const CAT_END: &str = ",\"comments\":{},\"currentCostume\":0,\"costumes\":[{\"name\":\"c1\",\"dataFormat\":\"svg\",\"assetId\":\"2\",\"md5ext\":\"2.svg\"}],\"sounds\":[],\"volume\":100,\"layerOrder\":1,\"visible\":true,\"x\":0,\"y\":0,\"size\":100,\"direction\":90,\"draggable\":false,\"rotationStyle\":\"all around\"}";
+const CAT: &str =
+    "{\"isStage\":false,\"name\":\"Cat\",\"variables\":{},\"lists\":{},\"broadcasts\":{},\"blocks\":";
+
+const CAT_END: &str =
+    ",\"comments\":{},\"currentCostume\":0,\"costumes\":[{\"name\":\"c1\",\"dataFormat\":\"svg\",\"assetId\":\"2\",\"md5ext\":\"2.svg\"}],\"sounds\":[],\"volume\":100,\"layerOrder\":1,\"visible\":true,\"x\":0,\"y\":0,\"size\":100,\"direction\":90,\"draggable\":false,\"rotationStyle\":\"all around\"}";
 
 // What the base file holds behind its targets.
-const MONITORS: &str = "\"monitors\":[{\"id\":\"v\",\"mode\":\"default\",\"opcode\":\"data_variable\",\"params\":{\"VARIABLE\":\"n\"},\"spriteName\":null,\"value\":0,\"visible\":true}],\"extensions\":[],\"meta\":{\"semver\":\"3.0.0\"}";
+const MONITORS: &str =
+    "\"monitors\":[{\"id\":\"v\",\"mode\":\"default\",\"opcode\":\"data_variable\",\"params\":{\"VARIABLE\":\"n\"},\"spriteName\":null,\"value\":0,\"visible\":true}],\"extensions\":[],\"meta\":{\"semver\":\"3.0.0\"}";
 
 // When the flag is clicked: set n to 5, change n by 2.
-const SET_AND_CHANGE: &str = "{\"a1\":{\"opcode\":\"event_whenflagclicked\",\"next\":\"a2\",\"inputs\":{},\"fields\":{},\"shadow\":false,\"topLevel\":true},\"a2\":{\"opcode\":\"data_setvariableto\",\"next\":\"a3\",\"inputs\":{\"VALUE\":[1,[4,\"5\"]]},\"fields\":{\"VARIABLE\":[\"n\",\"v\"]},\"shadow\":false,\"topLevel\":false},\"a3\":{\"opcode\":\"data_changevariableby\",\"next\":null,\"inputs\":{\"VALUE\":[1,[4,\"2\"]]},\"fields\":{\"VARIABLE\":[\"n\",\"v\"]},\"shadow\":false,\"topLevel\":false}}";
+const SET_AND_CHANGE: &str =
+    "{\"a1\":{\"opcode\":\"event_whenflagclicked\",\"next\":\"a2\",\"inputs\":{},\"fields\":{},\"shadow\":false,\"topLevel\":true},\"a2\":{\"opcode\":\"data_setvariableto\",\"next\":\"a3\",\"inputs\":{\"VALUE\":[1,[4,\"5\"]]},\"fields\":{\"VARIABLE\":[\"n\",\"v\"]},\"shadow\":false,\"topLevel\":false},\"a3\":{\"opcode\":\"data_changevariableby\",\"next\":null,\"inputs\":{\"VALUE\":[1,[4,\"2\"]]},\"fields\":{\"VARIABLE\":[\"n\",\"v\"]},\"shadow\":false,\"topLevel\":false}}";
 
 // What is read of a document with these targets.
 fn form_of(alloc: Global, targets: &str) -> Result<Result<FirstProject, FirstRefusal>, Fail> {
@@ -97,7 +103,8 @@ fn refuses_what_is_not_of_the_form(rt: HostRuntime) -> Result<(), Fail> {
 
 #[test]
 fn orders_the_sprites_by_layer(rt: HostRuntime) -> Result<(), Fail> {
-    let sprite = "{\"isStage\":false,\"name\":\"s\",\"costumes\":[{\"name\":\"c\"}],\"blocks\":{},\"layerOrder\":";
+    let sprite =
+        "{\"isStage\":false,\"name\":\"s\",\"costumes\":[{\"name\":\"c\"}],\"blocks\":{},\"layerOrder\":";
     let targets = format!(in rt.alloc(); "{sprite}3}},{STAGE},{sprite}1}},{sprite}3}}")?;
     let project = form_of(rt.alloc(), targets.as_str())??;
     assert_eq!(rt; project.order().as_slice(), [1, 2, 0, 3].as_slice());

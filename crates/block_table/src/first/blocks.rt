@@ -7,8 +7,8 @@ ghost use Rattle.block_table.specs.FirstForm.{fitting, number_in, two_in, opcode
 ghost use Rattle.block_table.specs.FirstReads.{Reads};
 
 use crate::first::members::{
-    defaulted_members, given_members, given_truth, items, present, required_members,
-    required_text, text,
+    defaulted_members, given_members, given_truth, items, present, required_members, required_text,
+    text,
 };
 use crate::first::numbers::{number, number_text};
 use crate::first::places::{Ids, Named};
@@ -164,12 +164,7 @@ fn operands(alloc: Global, ids: &Ids, json: &Json) -> Result<(u32, Text), FirstR
 }
 
 // What the block does.
-fn code(
-    alloc: Global,
-    ids: &Ids,
-    opcode: &str,
-    json: &Json,
-) -> Result<FirstCode, FirstRefusal>
+fn code(alloc: Global, ids: &Ids, opcode: &str, json: &Json) -> Result<FirstCode, FirstRefusal>
     ensures { Reads (λ c. c) result (code_of ids.now opcode.now (tree json.now)) }
 {
     if opcode == "event_whenflagclicked" {

@@ -113,11 +113,7 @@ pub(crate) fn value(alloc: Global, json: &Json) -> Result<Text, FirstRefusal>
     }
 }
 
-pub(crate) fn defaulted_number(
-    json: &Json,
-    name: &str,
-    default: i32,
-) -> Result<i32, FirstRefusal>
+pub(crate) fn defaulted_number(json: &Json, name: &str, default: i32) -> Result<i32, FirstRefusal>
     ensures { Reads (λ n. n) result (defaulted number_in default name.now (tree json.now)) }
 {
     match present(json, name) {

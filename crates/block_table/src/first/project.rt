@@ -201,7 +201,9 @@ pub fn first_form(alloc: Global, document: &Json) -> Result<FirstProject, FirstR
             let (monitors, blocks) = linked(alloc, &parts, document)?;
             let order = executable_order(alloc, parts.targets.as_slice())?;
             let Parts {
-                targets, variables, ..
+                targets,
+                variables,
+                ..
             } = parts;
             let variables = without_ids(alloc, variables)?;
             Ok(FirstProject::new(

@@ -1,4 +1,4 @@
-use Rattle.std.proofs.Common.{length, sym, ap, ◌∙◌, arith}
+use Rattle.std.proofs.Common.{length, ap, arith}
 use Rattle.project_json.specs.View.{tree}
 use Rattle.block_table.specs.FirstViews.{parts_seen}
 use Rattle.block_table.proofs.Well.{few, well}

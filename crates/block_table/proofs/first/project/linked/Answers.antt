@@ -1,4 +1,4 @@
-use Rattle.std.proofs.Common.{◌≡◌, ℕ, List, map, Some, sym, ap, ◌∙◌, subst}
+use Rattle.std.proofs.Common.{◌≡◌, ℕ, List, map, Some, ap, ◌∙◌, subst}
 use denote.Ref.{Bor}
 use Rattle.project_json.specs.declared.json.Member.{Member}
 use Rattle.project_json.specs.View.{tree, field}

@@ -1,11 +1,10 @@
-use Rattle.std.proofs.Common.{◌≡◌, ℕ, ◌<◌, List, length, get_or, take, map, Option, Some, None, cond, sym, ap, ◌∙◌, arith}
+use Rattle.std.proofs.Common.{◌≡◌, ℕ, ◌<◌, List, length, get_or, take, Some, None, cond, sym, ap, ◌∙◌, arith}
 use Rattle.std.specs.Str.{bytes_eq}
 use Rattle.std.specs.List.{position}
 use Rattle.std.specs.Option.{option_or}
 use Rattle.std.proofs.lemmas.List.{get_or-map, length-map}
 use Rattle.block_table.specs.declared.first.types.FirstVariable.{FirstVariable}
 use Rattle.block_table.specs.FirstForm.{ids_of}
-use Rattle.block_table.specs.FirstViews.{place_at}
 use Rattle.block_table.proofs.Positions.{position-take}
 use Rattle.block_table.proofs.first.places.Ids.new.Goals as goal
 
