@@ -1,6 +1,6 @@
 -- What std reads of a whole number of few digits.
-use Rattle.std.proofs.Common.{◌≡◌, ℕ, ◌≤◌, ◌<◌, ◌^◌, Bool, true, false, List, [], ◌∷◌, length, get_or, Result, Ok, Option, Some, None, is_some, ℤ, pos, neg_ℤ, ◌≢◌, refl, sym, ap, ◌∙◌, subst, arith, eqb, cond, ◌&&◌, leb}
-use Rattle.std.specs.Result.{result_ok, OkIff}
+use Rattle.std.proofs.Common.{◌≡◌, ℕ, ◌≤◌, ◌<◌, ◌^◌, Bool, true, false, List, [], ◌∷◌, length, get_or, Result, Option, Some, None, is_some, ℤ, pos, neg_ℤ, ◌≢◌, refl, sym, ap, ◌∙◌, arith, eqb, cond, ◌&&◌, leb}
+use Rattle.std.specs.Result.{result_ok}
 use Rattle.std.specs.Str.{all_ascii_digits}
 use Rattle.std.specs.Str.Parse.{digits_value, ParsesSigned}
 use Rattle.std.proofs.lemmas.Bool.Decides.{nat_tests}

@@ -1,8 +1,8 @@
 -- The first place in a list that grows at its end.
-use Rattle.std.proofs.Common.{◌≡◌, ℕ, suc, ◌+◌, ◌<◌, Bool, true, false, not, cond, List, [], ◌∷◌, ◌++◌, length, map, take, get_or, Option, Some, None, refl, sym, ap, ◌∙◌, arith, ltb, add-one}
+use Rattle.std.proofs.Common.{◌≡◌, ℕ, suc, ◌+◌, ◌<◌, Bool, true, false, not, cond, List, [], ◌∷◌, ◌++◌, length, map, take, get_or, Option, Some, None, refl, sym, ap, ◌∙◌, arith, ltb}
 use Rattle.std.specs.List.{position, position_or_len}
 use Rattle.std.specs.Option.{option_or}
-use Rattle.std.proofs.lemmas.List.{take_more, get_or-map, length-take, length-map}
+use Rattle.std.proofs.lemmas.List.{take_more, length-take}
 use Rattle.std.proofs.lemmas.Bool.Decides.{nat_tests}
 
 abbrev next : Option ℕ → Option ℕ

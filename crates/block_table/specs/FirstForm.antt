@@ -81,6 +81,7 @@ abbrev pub value_by : Option ℤ → Tree → Option (List ℕ)
 value_by None t = number_text_in t
 value_by (Some n) t = Some (signed_decimal n)
 
+-- the value of a variable: a number, or the text of one
 abbrev pub value_in : Tree → Option (List ℕ)
 value_in t = value_by (number_in t) t
 
@@ -89,15 +90,19 @@ abbrev pub place_by : ℕ → ℤ → Option ℕ
 place_by count (pos n) = if nat_lt n count then Some n else None
 place_by count (negsuc n) = None
 
+-- the place that a number tells
 abbrev pub place_in : ℕ → Tree → Option ℕ
 place_in count t = number_in t >>= place_by count
 
+-- a size, in percent
 abbrev pub size_in : Tree → Option ℤ
 size_in t = fitting (λ n. int_le (pos 0) n) (number_in t)
 
+-- a direction, in degrees
 abbrev pub direction_in : Tree → Option ℤ
 direction_in t = fitting (λ n. int_le (negsuc 178) n && int_le n (pos 180)) (number_in t)
 
+-- the rotation style of a name
 abbrev pub style_named : List ℕ → Style
 style_named name = if bytes_eq name (codes "left-right") then LeftRight else if bytes_eq name (codes "don't rotate") then DontRotate else AllAround
 
@@ -114,9 +119,11 @@ abbrev pub first_two_of : List Tree → Option (Tree × Tree)
 first_two_of (a ∷ b ∷ ts) = Some (a, b)
 first_two_of ts = None
 
+-- the two items of a value that is a list of two
 abbrev pub two_in : Tree → Option (Tree × Tree)
 two_in t = items_in t >>= two_of
 
+-- the items 0 and 1 of a value that is a list of two or more
 abbrev pub first_two_in : Tree → Option (Tree × Tree)
 first_two_in t = items_in t >>= first_two_of
 
@@ -145,12 +152,15 @@ of_stage true ms = Some ms
 of_stage false [] = Some []
 of_stage false (m ∷ ms) = None
 
+-- the variables of a target, with their ids
 abbrev pub variables_of : Bool → Tree → Option (List (List ℕ × FirstVariable))
 variables_of is_stage t = defaulted members_in [] (codes "variables") t >>= of_stage is_stage >>= each variable_of
 
+-- the lists of a target, which hold nothing
 abbrev pub lists_of : Bool → Tree → Option (Unit {0})
 lists_of is_stage t = defaulted members_in [] (codes "lists") t >>= of_stage is_stage >>= are_empty_lists
 
+-- a list that is not empty
 abbrev pub some_of : {A : Type 0} → List A → Option (List A)
 some_of [] = None
 some_of (a ∷ rest) = Some (a ∷ rest)
@@ -169,6 +179,7 @@ pub record Look : Type 0 where
   pub size : ℤ
   pub direction : ℤ
 
+-- what a target's members tell of its look
 abbrev pub look_of : Tree → Option Look
 look_of t =
     defaulted truth_in true (codes "visible") t >>= (λ visible.
@@ -189,6 +200,7 @@ pub record Sheet : Type 0 where
   pub variables : List (List ℕ × FirstVariable)
   pub blocks : List (List ℕ × Tree)
 
+-- the target, as its members tell it; whether it is the stage is known
 abbrev pub target_of : Bool → Tree → Option FirstTarget
 target_of is_stage t =
     required text_in (codes "name") t >>= (λ name.
@@ -201,6 +213,7 @@ target_of is_stage t =
     let seen = look_by is_stage look in
     Some (record { is_stage = is_stage; name = name; costumes = costumes; costume = costume; layer_order = layer_order; visible = seen.visible; x = seen.x; y = seen.y; size = seen.size; direction = seen.direction; style = style }))))))))
 
+-- all that a target's members tell
 abbrev pub sheet_of : Tree → Option Sheet
 sheet_of t =
     required truth_in (codes "isStage") t >>= (λ is_stage.
@@ -212,6 +225,7 @@ sheet_of t =
 
 -- Blocks
 
+-- a block's opcode
 abbrev pub opcode_of : Tree → Option (List ℕ)
 opcode_of t = required text_in (codes "opcode") t
 
@@ -297,6 +311,7 @@ abbrev pub blocks_from : List (List ℕ) → List (List ℕ × Tree) → ℕ →
 blocks_from ids ms i [] = Some []
 blocks_from ids ms i (m ∷ rest) = block_of ids ms i m.1 >>= (λ b. blocks_from ids ms (i + 1) rest >>= (λ bs. Some (b ∷ bs)))
 
+-- the blocks of a target
 abbrev pub blocks_of : List (List ℕ) → List (List ℕ × Tree) → Option (List FirstBlock)
 blocks_of ids ms = blocks_from ids ms 0 ms
 
@@ -306,11 +321,15 @@ blocks_of ids ms = blocks_from ids ms 0 ms
 abbrev pub no_member : List ℕ → Tree → Option (Unit {0})
 no_member name t = defaulted (λ m. None) tt name t
 
+-- the opcode of a monitor, which is that of a variable
+abbrev pub variable_opcode_of : Tree → Option (List ℕ)
+variable_opcode_of t = fitting (λ opcode. bytes_eq opcode (codes "data_variable")) (opcode_of t)
+
 -- a monitor of a variable of the stage
 abbrev pub monitor_of : List (List ℕ) → Tree → Option FirstMonitor
 monitor_of ids t =
     required text_in (codes "id") t >>= (λ id.
-    fitting (λ opcode. bytes_eq opcode (codes "data_variable")) (required text_in (codes "opcode") t) >>= (λ opcode.
+    variable_opcode_of t >>= (λ opcode.
     no_member (codes "spriteName") t >>= (λ sprite.
     defaulted truth_in false (codes "visible") t >>= (λ visible.
     defaulted members_in [] (codes "params") t >>= (λ params.
@@ -318,19 +337,46 @@ monitor_of ids t =
 
 -- The project
 
--- the variables of all targets, which are the stage's, with their ids
-abbrev pub all_variables : List Sheet → List (List ℕ × FirstVariable)
-all_variables sheets = flat_map (λ s. s.variables) sheets
+-- what the targets tell together
+pub record Parts : Type 0 where
+  pub targets : List FirstTarget
+  pub variables : List (List ℕ × FirstVariable)
+  pub blocks : List (List (List ℕ × Tree))
+
+-- the variables of all targets are the stage's
+abbrev pub parts_of : List Sheet → Parts
+parts_of sheets = record { targets = map (λ s. s.target) sheets; variables = flat_map (λ s. s.variables) sheets; blocks = map (λ s. s.blocks) sheets }
 
 -- one target is the stage, and there are at most 10,000 blocks in all
 abbrev pub are_fit : List Sheet → Bool
 are_fit sheets = (count_by (λ s. s.target.is_stage) sheets == 1) && nat_le (sum_by (λ s. length s.blocks) sheets) 10000
 
+-- what the members of each target tell
+abbrev pub sheets_in : Tree → Option (List Sheet)
+sheets_in t = required items_in (codes "targets") t >>= each sheet_of
+
+-- what the targets tell together, where they are fit
+abbrev pub parts_in : Tree → Option Parts
+parts_in t = fitting are_fit (sheets_in t) >>= (λ sheets. Some (parts_of sheets))
+
+-- the monitors of the document
+abbrev pub monitors_in : List (List ℕ) → Tree → Option (List FirstMonitor)
+monitors_in ids t = defaulted items_in [] (codes "monitors") t >>= each (monitor_of ids)
+
+-- the ids of variables
+abbrev pub ids_of : List (List ℕ × FirstVariable) → List (List ℕ)
+ids_of variables = map (λ v. v.0) variables
+
+-- the monitors, and the blocks of each target
+abbrev pub linked_in : Parts → Tree → Option (List FirstMonitor × List (List FirstBlock))
+linked_in parts t =
+    monitors_in (ids_of parts.variables) t >>= (λ monitors.
+    each (blocks_of (ids_of parts.variables)) parts.blocks >>= (λ blocks.
+    Some (monitors, blocks)))
+
+-- the project of a document of the first form
 abbrev pub project_of : Tree → Option Project
 project_of t =
-    fitting are_fit (required items_in (codes "targets") t >>= each sheet_of) >>= (λ sheets.
-    let variables = all_variables sheets in
-    let ids = map (λ v. v.0) variables in
-    defaulted items_in [] (codes "monitors") t >>= each (monitor_of ids) >>= (λ monitors.
-    each (λ s. blocks_of ids s.blocks) sheets >>= (λ blocks.
-    Some (record { targets = map (λ s. s.target) sheets; blocks = blocks; variables = map (λ v. v.1) variables; monitors = monitors }))))
+    parts_in t >>= (λ parts.
+    linked_in parts t >>= (λ linked.
+    Some (record { targets = parts.targets; blocks = linked.1; variables = map (λ v. v.1) parts.variables; monitors = linked.0 })))

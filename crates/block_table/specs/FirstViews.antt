@@ -1,20 +1,32 @@
 -- Temporary: what the code reads of the first form, as the definitions have it.
-use Rattle.std.specs.Prelude.{ℕ, List, Option, map}
+use Rattle.std.specs.Prelude.{ℕ, ℤ, List, Option, map}
 use Rattle.std.specs.BTreeMap.{get_by}
 use Rattle.std.specs.Ordering.{nat_cmp}
 use Rattle.std.specs.Cmp.Lexicographic.{slice_cmp}
 use Rattle.project_json.specs.View.{field}
 use Rattle.block_table.specs.FirstForm as form
+use Rattle.block_table.specs.FirstOrder.{Layered}
 use Rattle.block_table.specs.declared.first.places.Places.{Places}
 use Rattle.block_table.specs.declared.first.target.Look.{Look}
 use Rattle.block_table.specs.declared.first.target.Sheet.{Sheet}
+use Rattle.block_table.specs.declared.first.project.Parts.{Parts}
 
+-- where a target stands and how it looks
 abbrev pub look_seen : Look → form.Look
 look_seen l = record { visible = l.visible; x = l.x; y = l.y; size = l.size; direction = l.direction }
 
+-- what a target's members tell
 abbrev pub sheet_seen : Sheet → form.Sheet
 sheet_seen s = record { target = s.target; variables = s.variables.items; blocks = map field s.blocks.now }
 
 -- the place that is noted under a name
 abbrev pub place_at : Places → List ℕ → Option ℕ
 place_at p q = get_by (λ k. slice_cmp nat_cmp q k.now) p.places
+
+-- layer orders with their places
+abbrev pub ranks : List Layered → List (ℤ × ℕ)
+ranks ss = map (λ s. (s.layer, s.place)) ss
+
+-- what the targets tell together
+abbrev pub parts_seen : Parts → form.Parts
+parts_seen p = record { targets = p.targets.items; variables = p.variables.items; blocks = map (λ ms. map field ms.now) p.blocks.items }

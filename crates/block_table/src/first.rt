@@ -5,13 +5,17 @@
 
 mod blocks;
 mod members;
+mod monitors;
 mod numbers;
+mod order;
 mod places;
+mod project;
 mod refusal;
 mod target;
 mod types;
 mod variables;
 
+pub use project::first_form;
 pub use numbers::whole_number;
 pub use refusal::FirstRefusal;
 pub use types::{

@@ -7,8 +7,8 @@ ghost use Rattle.block_table.specs.FirstForm.{fitting, number_in, two_in, opcode
 ghost use Rattle.block_table.specs.FirstReads.{Reads};
 
 use crate::first::members::{
-    defaulted_members, given_members, given_truth, items, present, required_members,
-    required_text, text,
+    defaulted_members, given_members, given_truth, items, present, required_members, required_text,
+    text,
 };
 use crate::first::numbers::{number, number_text};
 use crate::first::places::{Ids, Named};
@@ -133,7 +133,7 @@ fn literal(json: &Json) -> Result<&Text, FirstRefusal>
 fn variable_with(ids: &Ids, id: &Text) -> Result<u32, FirstRefusal>
     ensures { Reads (λ n. n) result (position (λ other. bytes_eq other id.now) ids.now) }
 {
-    match ids.place(id.as_str()) {
+    match ids.place(id) {
         Some(place) => Ok(place),
         None => Err(FirstRefusal::Shape),
     }
@@ -164,12 +164,7 @@ fn operands(alloc: Global, ids: &Ids, json: &Json) -> Result<(u32, Text), FirstR
 }
 
 // What the block does.
-fn code(
-    alloc: Global,
-    ids: &Ids,
-    opcode: &str,
-    json: &Json,
-) -> Result<FirstCode, FirstRefusal>
+fn code(alloc: Global, ids: &Ids, opcode: &str, json: &Json) -> Result<FirstCode, FirstRefusal>
     ensures { Reads (λ c. c) result (code_of ids.now opcode.now (tree json.now)) }
 {
     if opcode == "event_whenflagclicked" {

@@ -15,13 +15,7 @@ pub(crate) fn present<'a>(json: &'a Json, name: &str) -> Option<&'a Json>
     ensures { option_map (λ j. tree j.now) result ≡ present (member_of (tree json.now) name.now) }
 {
     match member(json, name) {
-        Some(value) => {
-            if is_null(value) {
-                None
-            } else {
-                Some(value)
-            }
-        }
+        Some(value) => { if is_null(value) { None } else { Some(value) } }
         None => None,
     }
 }
@@ -79,13 +73,6 @@ pub(crate) fn required_text<'a>(json: &'a Json, name: &str) -> Result<&'a Text, 
     text(value)
 }
 
-pub(crate) fn required_truth(json: &Json, name: &str) -> Result<bool, FirstRefusal>
-    ensures { Reads (λ b. b) result (required truth_in name.now (tree json.now)) }
-{
-    let value = required(json, name)?;
-    truth(value)
-}
-
 pub(crate) fn required_items<'a>(json: &'a Json, name: &str) -> Result<&'a [Json], FirstRefusal>
     ensures { Reads (λ js. map tree js.now) result (required items_in name.now (tree json.now)) }
 {
@@ -93,10 +80,7 @@ pub(crate) fn required_items<'a>(json: &'a Json, name: &str) -> Result<&'a [Json
     items(value)
 }
 
-pub(crate) fn required_members<'a>(
-    json: &'a Json,
-    name: &str,
-) -> Result<&'a [Member], FirstRefusal>
+pub(crate) fn required_members<'a>(json: &'a Json, name: &str) -> Result<&'a [Member], FirstRefusal>
     ensures { Reads (λ ms. map field ms.now) result (required members_in name.now (tree json.now)) }
 {
     let value = required(json, name)?;
@@ -125,11 +109,7 @@ pub(crate) fn defaulted_items<'a>(json: &'a Json, name: &str) -> Result<&'a [Jso
     }
 }
 
-pub(crate) fn defaulted_truth(
-    json: &Json,
-    name: &str,
-    default: bool,
-) -> Result<bool, FirstRefusal>
+pub(crate) fn defaulted_truth(json: &Json, name: &str, default: bool) -> Result<bool, FirstRefusal>
     ensures { Reads (λ b. b) result (defaulted truth_in default name.now (tree json.now)) }
 {
     match present(json, name) {

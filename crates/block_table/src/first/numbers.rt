@@ -114,11 +114,23 @@ pub(crate) fn value(alloc: Global, json: &Json) -> Result<Text, FirstRefusal>
     }
 }
 
-// One of so many places.
-fn place(json: &Json, count: usize) -> Result<u32, FirstRefusal>
-    ensures { Reads (λ n. n) result (place_in count (tree json.now)) }
+pub(crate) fn defaulted_number(json: &Json, name: &str, default: i32) -> Result<i32, FirstRefusal>
+    ensures { Reads (λ n. n) result (defaulted number_in default name.now (tree json.now)) }
 {
-    let number = number(json)?;
+    match present(json, name) {
+        Some(value) => number(value),
+        None => Ok(default),
+    }
+}
+
+// One of so many places.
+pub(crate) fn defaulted_place(json: &Json, name: &str, count: usize) -> Result<u32, FirstRefusal>
+    ensures { Reads (λ n. n) result (defaulted (place_in count) 0 name.now (tree json.now)) }
+{
+    let Some(value) = present(json, name) else {
+        return Ok(0);
+    };
+    let number = number(value)?;
     if number < 0 {
         return Err(FirstRefusal::Shape);
     }
@@ -130,10 +142,13 @@ fn place(json: &Json, count: usize) -> Result<u32, FirstRefusal>
     }
 }
 
-fn size(json: &Json) -> Result<i32, FirstRefusal>
-    ensures { Reads (λ n. n) result (size_in (tree json.now)) }
+pub(crate) fn defaulted_size(json: &Json, name: &str) -> Result<i32, FirstRefusal>
+    ensures { Reads (λ n. n) result (defaulted size_in (pos 100) name.now (tree json.now)) }
 {
-    let size = number(json)?;
+    let Some(value) = present(json, name) else {
+        return Ok(100);
+    };
+    let size = number(value)?;
     if 0 <= size {
         Ok(size)
     } else {
@@ -141,53 +156,16 @@ fn size(json: &Json) -> Result<i32, FirstRefusal>
     }
 }
 
-fn direction(json: &Json) -> Result<i32, FirstRefusal>
-    ensures { Reads (λ n. n) result (direction_in (tree json.now)) }
+pub(crate) fn defaulted_direction(json: &Json, name: &str) -> Result<i32, FirstRefusal>
+    ensures { Reads (λ n. n) result (defaulted direction_in (pos 90) name.now (tree json.now)) }
 {
-    let direction = number(json)?;
+    let Some(value) = present(json, name) else {
+        return Ok(90);
+    };
+    let direction = number(value)?;
     if -179 <= direction && direction <= 180 {
         Ok(direction)
     } else {
         Err(FirstRefusal::Shape)
-    }
-}
-
-pub(crate) fn defaulted_number(
-    json: &Json,
-    name: &str,
-    default: i32,
-) -> Result<i32, FirstRefusal>
-    ensures { Reads (λ n. n) result (defaulted number_in default name.now (tree json.now)) }
-{
-    match present(json, name) {
-        Some(value) => number(value),
-        None => Ok(default),
-    }
-}
-
-pub(crate) fn defaulted_place(json: &Json, name: &str, count: usize) -> Result<u32, FirstRefusal>
-    ensures { Reads (λ n. n) result (defaulted (place_in count) 0 name.now (tree json.now)) }
-{
-    match present(json, name) {
-        Some(value) => place(value, count),
-        None => Ok(0),
-    }
-}
-
-pub(crate) fn defaulted_size(json: &Json, name: &str) -> Result<i32, FirstRefusal>
-    ensures { Reads (λ n. n) result (defaulted size_in (pos 100) name.now (tree json.now)) }
-{
-    match present(json, name) {
-        Some(value) => size(value),
-        None => Ok(100),
-    }
-}
-
-pub(crate) fn defaulted_direction(json: &Json, name: &str) -> Result<i32, FirstRefusal>
-    ensures { Reads (λ n. n) result (defaulted direction_in (pos 90) name.now (tree json.now)) }
-{
-    match present(json, name) {
-        Some(value) => direction(value),
-        None => Ok(90),
     }
 }

@@ -3,9 +3,10 @@
 ghost use Rattle.std.specs.Prelude.{◌≡◌, ◌<◌, ◌^◌, ℕ, List, OnOk, IfOk, Option, Some, None, bytes_eq, length, map, position, if◌then◌else◌};
 ghost use Rattle.std.specs.Option.{option_or};
 ghost use Rattle.project_json.specs.View.{field};
-ghost use Rattle.block_table.specs.FirstForm.{place_named};
+ghost use Rattle.block_table.specs.FirstForm.{ids_of, place_named};
 ghost use Rattle.block_table.specs.FirstViews.{place_at};
 
+use crate::first::types::FirstVariable;
 use project_json::{Member, Text};
 use std::alloc::{AllocError, Global};
 use std::collections::BTreeMap;
@@ -46,42 +47,46 @@ impl<'a> Places<'a> {
     }
 }
 
-/// Texts with their places. Contracts see the list of them.
+/// The ids of variables with their places. Contracts see the list of them.
 #[derive(Drop)]
 pub(crate) struct Ids<'a> {
-    ids: &'a [Text],
+    variables: &'a [(Text, FirstVariable)],
     places: Places<'a>,
 }
 
 impl<'a> Model for Ids<'a> {
     ghost use Rattle.std.specs.Prelude.{◌≡◌, ℕ, List, bytes_eq, position};
+    ghost use Rattle.block_table.specs.FirstForm.{ids_of};
     ghost use Rattle.block_table.specs.FirstViews.{place_at};
 
     ghost Value = { List (List ℕ) };
 
-    ghost view = { λ a. a.ids.now };
+    ghost view = { λ a. ids_of a.variables.now };
 
-    ghost invariant = { λ a. (q : List ℕ) → place_at a.places q ≡ position (λ id. bytes_eq id q) a.ids.now };
+    ghost invariant = { λ a. (q : List ℕ) → place_at a.places q ≡ position (λ id. bytes_eq id q) (ids_of a.variables.now) };
 }
 
 impl<'a> Ids<'a> {
-    /// The texts with their places, of which there are few enough.
-    pub(crate) fn new(alloc: Global, ids: &'a [Text]) -> Result<Ids<'a>, AllocError>
-        requires { length ids.now < 2 ^ 32 }
-        ensures { IfOk result (λ i. i ≡ ids.now) }
+    /// The ids with their places, of which there are few enough.
+    pub(crate) fn new(
+        alloc: Global,
+        variables: &'a [(Text, FirstVariable)],
+    ) -> Result<Ids<'a>, AllocError>
+        requires { length variables.now < 2 ^ 32 }
+        ensures { IfOk result (λ ids. ids ≡ ids_of variables.now) }
     {
         let mut places = Places::new(alloc);
-        for (i, id) in ids.iter().enumerate() {
-            places.put(id.as_str(), i as u32)?;
+        for (i, variable) in variables.iter().enumerate() {
+            places.put(variable.0.as_str(), i as u32)?;
         }
-        Ok(Ids { ids, places })
+        Ok(Ids { variables, places })
     }
 
     /// The place of the first that is this text. It takes the time of a logarithm.
-    pub(crate) fn place(&self, id: &str) -> Option<u32>
+    pub(crate) fn place(&self, id: &Text) -> Option<u32>
         ensures { result ≡ position (λ other. bytes_eq other id.now) self.now }
     {
-        self.places.place(id)
+        self.places.place(id.as_str())
     }
 }
 

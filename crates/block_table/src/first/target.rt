@@ -8,8 +8,8 @@ ghost use Rattle.block_table.specs.FirstReads.{Reads};
 ghost use Rattle.block_table.specs.FirstViews.{look_seen, sheet_seen};
 
 use crate::first::members::{
-    defaulted_truth, present, required_items, required_members, required_text, required_truth,
-    text,
+    defaulted_truth, present, required, required_items, required_members, required_text, text,
+    truth,
 };
 use crate::first::numbers::{
     defaulted_direction, defaulted_number, defaulted_place, defaulted_size,
@@ -150,7 +150,7 @@ fn target(alloc: Global, is_stage: bool, json: &Json) -> Result<FirstTarget, Fir
 pub(crate) fn sheet_of(alloc: Global, json: &Json) -> Result<Sheet<'_>, FirstRefusal>
     ensures { Reads sheet_seen result (sheet_of (tree json.now)) }
 {
-    let is_stage = required_truth(json, "isStage")?;
+    let is_stage = truth(required(json, "isStage")?)?;
     let target = target(alloc, is_stage, json)?;
     let variables = variables(alloc, is_stage, json)?;
     lists(is_stage, json)?;

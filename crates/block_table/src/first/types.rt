@@ -235,8 +235,28 @@ impl Model for FirstProject {
 }
 
 impl FirstProject {
-    ghost use Rattle.block_table.specs.FirstProject.{IsWell};
+    ghost use Rattle.block_table.specs.FirstProject.{Project, IsWell};
     ghost use Rattle.block_table.specs.FirstOrder.{executable_order};
+
+    pub(crate) fn new(
+        targets: FirstTargets,
+        blocks: Vec<FirstBlocks>,
+        variables: FirstVariables,
+        monitors: FirstMonitors,
+        order: FirstOrder,
+    ) -> FirstProject
+        requires well { IsWell (record { targets = targets; blocks = blocks.items; variables = variables; monitors = monitors }) }
+        requires ordered { order ≡ executable_order targets }
+        ensures { result ≡ record { targets = targets; blocks = blocks.items; variables = variables; monitors = monitors } }
+    {
+        FirstProject {
+            targets,
+            blocks,
+            variables,
+            monitors,
+            order,
+        }
+    }
 
     /// The targets, in the order of the file.
     pub fn targets(&self) -> &FirstTargets

@@ -1,4 +1,4 @@
-use Rattle.std.proofs.Common.{◌≡◌, true, is_some, sym, ap, ◌∙◌, subst}
+use Rattle.std.proofs.Common.{◌≡◌, true, is_some, sym, ap, ◌∙◌}
 use Rattle.block_table.specs.FirstForm.{whole_number}
 use Rattle.block_table.proofs.Numbers.{parsed}
 use Rattle.block_table.proofs.first.numbers.whole_number.Goals as goal

@@ -1,11 +1,10 @@
-use Rattle.std.proofs.Common.{◌≡◌, ℕ, ◌<◌, List, length, get_or, take, map, Option, Some, None, cond, sym, ap, ◌∙◌, arith}
+use Rattle.std.proofs.Common.{◌≡◌, ℕ, ◌<◌, List, length, get_or, take, map, Some, None, cond, sym, ap, ◌∙◌, arith}
 use Rattle.std.specs.Str.{bytes_eq}
 use Rattle.std.specs.List.{position}
 use Rattle.std.specs.Option.{option_or}
 use Rattle.std.proofs.lemmas.List.{get_or-map, length-map}
 use Rattle.project_json.specs.Tree.{Tree}
 use Rattle.project_json.specs.View.{field}
-use Rattle.block_table.specs.FirstViews.{place_at}
 use Rattle.block_table.proofs.Positions.{position-take}
 use Rattle.block_table.proofs.first.places.Named.new.Goals as goal
 
