@@ -43,6 +43,7 @@ impl Model for MemoryShelf {
 
 impl MemoryShelf {
     /// A shelf that holds the files, and whose listed calls fail. Where a name stands twice, its first place counts.
+    /// Both lists keep the allocators that they were made with.
     pub fn new(_alloc: Global, files: NamedBytes, fails: Numbers) -> Self
         ensures { result ≡ record {
           files = files_of files;
