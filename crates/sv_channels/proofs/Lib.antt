@@ -1,3 +1,4 @@
+pub mod Fetches
 pub mod Gains
 pub mod Named
 pub mod Rows

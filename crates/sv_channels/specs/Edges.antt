@@ -1,5 +1,5 @@
 -- What the shelf over the files of the system and the sink over the standard output count: their own failures alone.
-use Rattle.std.specs.Prelude.{ℕ, Vec, Result, Ok, Err}
+use Rattle.std.specs.Prelude.{ℕ, Vec, Result, Err}
 use Rattle.std.specs.declared.alloc.Global.{Global}
 use Rattle.sv_channels.specs.Counts.{next_count}
 use Rattle.sv_channels.specs.declared.errors.FetchError.{FetchError}

@@ -26,9 +26,11 @@ pub record ShelfState : Type 0 where
 abbrev pub shelf_code : Coded ShelfState
 shelf_code =
     let bytes = coded_list coded_ℕ in
-    code_by (Files × (List ℕ × (ℕ × (ℕ × ℕ)))) (coded× (code bytes bytes) (coded× (coded_list coded_ℕ) (coded× coded_ℕ (coded× coded_ℕ coded_ℕ))))
+    code_by (Files × (List ℕ × (ℕ × (ℕ × ℕ))))
+    (coded× (code bytes bytes) (coded× (coded_list coded_ℕ) (coded× coded_ℕ (coded× coded_ℕ coded_ℕ))))
     (λ s. (s.files, (s.fails, (s.calls, (s.failed_fetches, s.failed_puts)))))
-    (λ t. record { files = t.0; fails = t.1.0; calls = t.1.1.0; failed_fetches = t.1.1.1.0; failed_puts = t.1.1.1.1 }) (λ _. refl)
+    (λ t. record { files = t.0; fails = t.1.0; calls = t.1.1.0; failed_fetches = t.1.1.1.0; failed_puts = t.1.1.1.1 })
+    (λ _. refl)
 
 -- whether the next call is listed to fail
 abbrev pub fails_next : ShelfState → Bool
@@ -93,5 +95,6 @@ part_of (Some count) piece = take count piece
 -- the sink after a write
 abbrev pub after_write : SinkState → List ℕ → Result Unit SinkError → SinkState
 after_write s piece (Ok _) = record s { calls = next_count s.calls; written = s.written ++ piece }
-after_write s piece (Err sink.Failed) = record s { calls = next_count s.calls; written = s.written ++ part_of (fails_after s) piece; faults = next_count s.faults }
+after_write s piece (Err sink.Failed) =
+    record s { calls = next_count s.calls; written = s.written ++ part_of (fails_after s) piece; faults = next_count s.faults }
 after_write s piece (Err sink.NoMemory) = record s { calls = next_count s.calls }

@@ -16,8 +16,9 @@ IsHeld held name bytes = IfSome held (λ files. get files name ≡ Some bytes)
 abbrev pub IsHeldAbove : Option Files → List ℕ → ℕ → Type 0
 IsHeldAbove held name limit = IfSome held (λ files. IsSomeAnd (get files name) (λ bytes. limit < length bytes))
 
--- What a fetch answers: bytes are those that are held, and at most the limit; too large are only those above the
--- limit; and it failed only where the count of the name's failed fetches rose. A name that is not held is neither.
+-- What a fetch answers: the bytes that are held, and at most the limit; too large only where more are held than the
+-- limit, which is told back; and failed only where the count of the name's failed fetches rose. So a name that is not
+-- held is answered by a failure, but for want of memory.
 abbrev pub FetchAnswer : Option Files → List ℕ → ℕ → Type 0 → Result (Vec ℕ Global) FetchError → Type 0
 FetchAnswer held name limit rose (Ok bytes) = (length bytes.items ≤ limit) × IsHeld held name bytes.items
 FetchAnswer held name limit rose (Err fetch.Failed) = rose

@@ -32,13 +32,26 @@ impl Model for MemoryShelf {
 
     ghost coded = { shelf_code };
 
-    ghost view = { λ s. record { files = files_of s.files; fails = s.fails; calls = s.calls; failed_fetches = s.failed_fetches; failed_puts = s.failed_puts } };
+    ghost view = { λ s. record {
+      files = files_of s.files;
+      fails = s.fails;
+      calls = s.calls;
+      failed_fetches = s.failed_fetches;
+      failed_puts = s.failed_puts;
+    } };
 }
 
 impl MemoryShelf {
     /// A shelf that holds the files, and whose listed calls fail. Where a name stands twice, its first place counts.
+    /// Both lists keep the allocators that they were made with.
     pub fn new(_alloc: Global, files: NamedBytes, fails: Numbers) -> Self
-        ensures { result ≡ record { files = files_of files; fails = fails; calls = 0; failed_fetches = 0; failed_puts = 0 } }
+        ensures { result ≡ record {
+          files = files_of files;
+          fails = fails;
+          calls = 0;
+          failed_fetches = 0;
+          failed_puts = 0;
+        } }
     {
         MemoryShelf {
             files,

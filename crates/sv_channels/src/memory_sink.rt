@@ -66,7 +66,12 @@ impl Model for MemorySink {
 
     ghost Value = { SinkState };
 
-    ghost view = { λ s. record { written = s.bytes.items; fails = s.fails; calls = s.calls; faults = s.faults } };
+    ghost view = { λ s. record {
+      written = s.bytes.items;
+      fails = s.fails;
+      calls = s.calls;
+      faults = s.faults;
+    } };
 }
 
 impl MemorySink {

@@ -19,7 +19,8 @@ pub trait Shelf {
     /// How many puts of a name have failed.
     ghost put_faults: { Self → List ℕ → ℕ };
 
-    /// The bytes under the name, at most `limit` of them. A name that is not held is a failure.
+    /// The bytes under the name, where they are at most `limit`. A name that is not held is a failure. More bytes than
+    /// `limit` are too large, where reading them did not fail before.
     fn fetch(&mut self, alloc: Global, name: &str, limit: u64) -> Result<Vec<u8>, FetchError>
         ensures answer { FetchAnswer (held self.old) name.now limit
             (Rose (fetch_faults self.old name.now) (fetch_faults self.new name.now)) result }

@@ -33,9 +33,11 @@ pub(crate) fn read_up_to<F: Read>(
     most: u64,
 ) -> Result<Vec<u8>, ReadStop>
     ensures bound { IfOk result (λ bytes. length bytes.items ≤ most) }
-    ensures bytes { IfOk result (λ bytes. IfSome (F.remaining file.old) (λ all. bytes.items ≡ take most all)) }
+    ensures bytes { IfOk result (λ bytes.
+        IfSome (F.remaining file.old) (λ all. bytes.items ≡ take most all)) }
     // No more is read than is answered.
-    ensures taken { IfOk result (λ bytes. Consumes (F.remaining file.old) (F.remaining file.new) bytes.items) }
+    ensures taken { IfOk result (λ bytes.
+        Consumes (F.remaining file.old) (F.remaining file.new) bytes.items) }
 {
     let mut bytes = Vec::new(alloc);
     let mut buffer = [0u8; BUFFER_LENGTH];
