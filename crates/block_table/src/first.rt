@@ -15,8 +15,8 @@ mod target;
 mod types;
 mod variables;
 
+pub use numbers::{whole_number, whole_number};
 pub use project::first_form;
-pub use numbers::whole_number;
 pub use refusal::FirstRefusal;
 pub use types::{
     FirstBlock, FirstBlocks, FirstCode, FirstMonitor, FirstMonitors, FirstOrder, FirstProject,
