@@ -1,4 +1,5 @@
 pub mod Words
+pub mod FormView
 pub mod Lines
 pub mod FrameText
 pub mod SpriteLine

@@ -1,6 +1,10 @@
 //! How a call ends.
 
+ghost use Rattle.std.specs.Prelude.{◌≡◌, IfOk, string_bytes};
+ghost use Rattle.player.specs.Told.{text_of_status, exit_of_status};
+
 use project_json::{JsonRefusal, Text};
+use std::alloc::{AllocError, Global};
 
 /// Which of the files that the words name.
 #[derive(Clone, Copy, Debug, PartialEq, Eq)]
@@ -45,4 +49,45 @@ pub enum Status {
     TooLarge { which: Which, limit: u64 },
     /// Memory ran out.
     NoMemory,
+}
+
+/// The text that tells a status: its name, after a refused project the number of the refusal, and
+/// after a refused line the number of the refusal and the line.
+pub fn status_text(alloc: Global, status: &Status) -> Result<String, AllocError>
+    ensures { IfOk result (λ text. string_bytes text ≡ text_of_status status.now) }
+{
+    match status {
+        Status::Done => String::from_str(alloc, "Done"),
+        Status::Usage => String::from_str(alloc, "Usage"),
+        Status::ReadFault => String::from_str(alloc, "ReadFault"),
+        Status::WriteFault => String::from_str(alloc, "WriteFault"),
+        Status::BadProject(Refusal::Json(JsonRefusal::Syntax { .. })) => {
+            String::from_str(alloc, "BadProject P1")
+        }
+        Status::BadProject(Refusal::Shape { .. }) => String::from_str(alloc, "BadProject P2"),
+        Status::BadScript(LineRefusal::UnknownLine { line }) => {
+            format!(in alloc; "BadScript 2 {line}")
+        }
+        Status::TooLarge { .. } => String::from_str(alloc, "TooLarge"),
+        Status::NoMemory | Status::BadProject(Refusal::Json(JsonRefusal::NoMemory)) => {
+            String::from_str(alloc, "NoMemory")
+        }
+    }
+}
+
+/// The number with which the command ends.
+pub fn exit_number(status: &Status) -> u8
+    ensures { result ≡ exit_of_status status.now }
+{
+    match status {
+        Status::Done => 0,
+        Status::Usage => 1,
+        Status::ReadFault => 2,
+        Status::WriteFault => 3,
+        Status::BadProject(Refusal::Json(JsonRefusal::Syntax { .. })) => 4,
+        Status::BadProject(Refusal::Shape { .. }) => 4,
+        Status::BadScript(_) => 5,
+        Status::TooLarge { .. } => 8,
+        Status::NoMemory | Status::BadProject(Refusal::Json(JsonRefusal::NoMemory)) => 9,
+    }
 }

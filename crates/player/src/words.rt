@@ -1,8 +1,9 @@
 //! The words of a line and of the command.
 
-ghost use Rattle.std.specs.Prelude.{◌≡◌, ◌∷◌, [], IfNone, IfSome};
+ghost use Rattle.std.specs.Prelude.{◌≡◌, ◌∷◌, [], IfNone, IfSome, map, string_bytes, option_map};
 ghost use Rattle.std.specs.Str.{all_ascii_digits};
-ghost use Rattle.player.specs.Words.{is_whole, whole_up_to, pieces};
+ghost use Rattle.player.specs.Words.{is_whole, whole_up_to, pieces, form_of};
+ghost use Rattle.player.specs.FormView.{form_view};
 
 /// The names of the files that the command's words give.
 #[derive(Clone, Copy, Debug)]
@@ -53,5 +54,25 @@ pub fn cut(text: &str) -> (&str, Option<&str>)
     match text.split_once(' ') {
         Some((piece, rest)) => (piece, Some(rest)),
         None => (text, None),
+    }
+}
+
+/// The form of the command's words, or `None` where they have none.
+pub fn form_of(words: &[String]) -> Option<Form<'_>>
+    ensures { option_map form_view result ≡ form_of (map string_bytes words.now) }
+{
+    match words {
+        [command, project, script, seed, save] => {
+            let seed = whole_up_to(seed.as_str(), u64::MAX);
+            if seed.is_some() && command.as_str() == "play" && save.as_str() == "-" {
+                Some(Form {
+                    project: project.as_str(),
+                    script: script.as_str(),
+                })
+            } else {
+                None
+            }
+        }
+        _ => None,
     }
 }
