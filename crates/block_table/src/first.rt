@@ -15,7 +15,7 @@ mod target;
 mod types;
 mod variables;
 
-pub use numbers::{whole_number, whole_number};
+pub use numbers::whole_number;
 pub use project::first_form;
 pub use refusal::FirstRefusal;
 pub use types::{
