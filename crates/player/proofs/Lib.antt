@@ -4,3 +4,5 @@ pub mod Numerals
 pub mod LineWords
 pub mod Texts
 pub mod TargetLines
+pub mod Outputs
+pub mod Calls

@@ -1,8 +1,10 @@
 pub mod Words
 pub mod FormView
+pub mod GoodLine
 pub mod Lines
 pub mod FrameText
 pub mod SpriteLine
 pub mod Output
 pub mod Promise
+pub mod Stages
 pub mod Told

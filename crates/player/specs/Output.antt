@@ -1,5 +1,5 @@
 -- The output of a run: what the lines of a script write, one after another, and how it ends.
-use Rattle.std.specs.Prelude.{ℕ, ◌+◌, List, [], ◌∷◌, Option, None, Some}
+use Rattle.std.specs.Prelude.{ℕ, ◌+◌, List, [], ◌∷◌, ◌++◌, Option, None, Some}
 use Rattle.block_table.specs.FirstProject.{Project}
 use Rattle.sequencer.specs.World.{World}
 use Rattle.sequencer.specs.Frame.{frame, flag_line}
@@ -26,15 +26,25 @@ pub record Outcome : Type 0 where
 abbrev pub ends : Ending → Outcome
 ends ending = record { frames = []; ending = ending }
 
-abbrev pub with_frame : List ℕ → Outcome → Outcome
-with_frame text o = record { frames = text ∷ o.frames; ending = o.ending }
+abbrev pub with_frames : List (List ℕ) → Outcome → Outcome
+with_frames texts o = record { frames = texts ++ o.frames; ending = o.ending }
 
--- line n: a good line goes on with the world after it, and a frame line writes its frame; a refused line ends the run
+-- the world after a good line
+abbrev pub world_after : Project → World → Line → World
+world_after p w Nothing = w
+world_after p w Flag = flag_line p w
+world_after p w (Frame b) = frame b w
+
+-- the frame texts that a good line writes: one for a frame line, of the world after it
+abbrev pub frames_after : Project → World → Line → List (List ℕ)
+frames_after p w Nothing = []
+frames_after p w Flag = []
+frames_after p w (Frame b) = frame_text p (frame b w) ∷ []
+
+-- line n: a good line writes its frames and goes on with the world after it; a refused line ends the run
 abbrev pub line_played : Project → ℕ → World → Option Line → (World → Outcome) → Outcome
 line_played p n w None go = ends (bad_line n)
-line_played p n w (Some Nothing) go = go w
-line_played p n w (Some Flag) go = go (flag_line p w)
-line_played p n w (Some (Frame b)) go = with_frame (frame_text p (frame b w)) (go (frame b w))
+line_played p n w (Some line) go = with_frames (frames_after p w line) (go (world_after p w line))
 
 -- the lines in order, the first of which has the number n
 abbrev pub played : Project → ℕ → World → List (List ℕ) → Outcome

@@ -8,7 +8,7 @@ use Rattle.sv_channels.specs.Counts.{Rose}
 use Rattle.sv_channels.specs.Files.{Files}
 use Rattle.sv_channels.specs.Sink.{Gained}
 use Rattle.project_json.specs.Tree.{Tree}
-use Rattle.project_json.specs.Grammar.{json}
+use Rattle.project_json.specs.Grammar.{IsJson}
 use Rattle.project_json.specs.declared.refusal.JsonRefusal.TheVariants as json_refusal
 use Rattle.block_table.specs.FirstProject.{Project}
 use Rattle.block_table.specs.FirstForm.{project_of}
@@ -33,9 +33,9 @@ pub data Loading : Type 0 where
 -- The bytes are no JSON text nested at most 256 deep (RFC 8259), or one of a document that is not of the first form,
 -- or one of a document that tells the project.
 abbrev pub Loads : List ℕ → Loading → Type 0
-Loads bytes not_json = (t : Tree) → json 256 bytes t → ⊥
-Loads bytes not_first_form = (t : Tree) × json 256 bytes t × (project_of t ≡ None)
-Loads bytes (loaded p) = (t : Tree) × json 256 bytes t × (project_of t ≡ Some p)
+Loads bytes not_json = (t : Tree) → IsJson 256 bytes t → ⊥
+Loads bytes not_first_form = (t : Tree) × IsJson 256 bytes t × (project_of t ≡ None)
+Loads bytes (loaded p) = (t : Tree) × IsJson 256 bytes t × (project_of t ≡ Some p)
 
 -- the same of a file that may not be held
 abbrev pub LoadsFile : Option (List ℕ) → Loading → Type 0

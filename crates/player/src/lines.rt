@@ -3,6 +3,7 @@
 ghost use Rattle.std.specs.Prelude.{◌≡◌, ◌<◌, ◌*◌, ◌^◌, ◌==◌, [], ◌∷◌, length, IfNone, IfSome, codes};
 ghost use Rattle.std.specs.List.{position_or_len};
 ghost use Rattle.player.specs.Lines.{lines_of, budget_by, line_by, text_line, line_of};
+ghost use Rattle.player.specs.GoodLine.{IsGood};
 ghost use Rattle.player.specs.Words.{pieces, whole_up_to};
 
 use crate::words::{cut, whole_up_to};
@@ -24,7 +25,8 @@ const MAX_WARP: u64 = 1_000_000;
 
 // A frame line of these three words.
 fn frame_line(last: u64, clock: &str, passes: &str, warp: &str) -> Option<Line>
-    ensures { result ≡ budget_by last (whole_up_to (9 * 10 ^ 12) clock.now) (whole_up_to 10000 passes.now) (whole_up_to 1000000 warp.now) }
+    ensures line { result ≡ budget_by last (whole_up_to (9 * 10 ^ 12) clock.now) (whole_up_to 10000 passes.now) (whole_up_to 1000000 warp.now) }
+    ensures good { IfSome result (IsGood last) }
 {
     let clock = whole_up_to(clock, MAX_CLOCK)?;
     let passes = whole_up_to(passes, MAX_PASSES)?;
@@ -42,7 +44,8 @@ fn frame_line(last: u64, clock: &str, passes: &str, warp: &str) -> Option<Line>
 #[tactic(auto, using(crate::proofs::LineWords::five_words))]
 // A line that begins with the word `frame` and a space: what follows is three words.
 fn frame_words(last: u64, rest: &str) -> Option<Line>
-    ensures { result ≡ line_by last (codes "frame" ∷ pieces rest.now) }
+    ensures line { result ≡ line_by last (codes "frame" ∷ pieces rest.now) }
+    ensures good { IfSome result (IsGood last) }
 {
     let (clock, rest) = cut(rest);
     let (passes, rest) = cut(rest?);
@@ -56,7 +59,8 @@ fn frame_words(last: u64, rest: &str) -> Option<Line>
 #[tactic(auto, using(crate::proofs::LineWords::other_word))]
 // A line of text; `last` is the clock of the last frame.
 fn text_line(last: u64, text: &str) -> Option<Line>
-    ensures { result ≡ text_line last text.now }
+    ensures line { result ≡ text_line last text.now }
+    ensures good { IfSome result (IsGood last) }
 {
     if text.is_empty() || text.as_bytes()[0] == b'#' {
         return Some(Line::Nothing);
@@ -84,7 +88,8 @@ fn text_line(last: u64, text: &str) -> Option<Line>
 /// The line that the bytes are, or `None` where they are no good line. `last` is the clock of the
 /// last frame, in milliseconds.
 pub fn line_of(last: u64, bytes: &[u8]) -> Option<Line>
-    ensures { result ≡ line_of last bytes.now }
+    ensures line { result ≡ line_of last bytes.now }
+    ensures good { IfSome result (IsGood last) }
 {
     match str::from_utf8(bytes) {
         Ok(text) => text_line(last, text),

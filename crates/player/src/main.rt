@@ -4,8 +4,69 @@
 mod frame_text;
 mod lines;
 mod status;
+mod top;
 mod words;
 
-fn main(rt: HostRuntime) {
-    let _ = rt;
+use status::{Status, exit_number, status_text};
+use std::alloc::{AllocError, Global};
+use std::env;
+use std::io::{Eprint, ErrorKind};
+use std::process::ExitCode;
+use std::rt::Env;
+use sv_channels::{FileShelf, StdSink};
+use top::play;
+
+// The command's words without the program's name. Words that are not UTF-8 are no form.
+fn words_of<R: Env + AllocGlobal>(rt: &R) -> Result<Vec<String>, Status> {
+    let arguments = match env::args(rt) {
+        Ok(arguments) => arguments,
+        Err(error) => {
+            return match error.kind() {
+                ErrorKind::OutOfMemory => Err(Status::NoMemory),
+                _ => Err(Status::Usage),
+            };
+        }
+    };
+    let mut words = Vec::new(rt.alloc());
+    for word in arguments.skip(1) {
+        if words.push(word).is_err() {
+            return Err(Status::NoMemory);
+        }
+    }
+    Ok(words)
+}
+
+// The real files and the standard output.
+fn edges_of(
+    rt: &HostRuntime,
+) -> Result<(FileShelf<HostRuntime>, StdSink<HostRuntime>), AllocError> {
+    Ok((FileShelf::new(rt.clone()?), StdSink::new(rt.clone()?)))
+}
+
+// Plays with real files and the standard output.
+fn run(rt: &HostRuntime) -> Status {
+    let words = match words_of(rt) {
+        Ok(words) => words,
+        Err(status) => return status,
+    };
+    match edges_of(rt) {
+        Ok((mut shelf, mut out)) => play(rt.alloc(), &words, &mut shelf, &mut out),
+        Err(_) => Status::NoMemory,
+    }
+}
+
+// Tells the status on the standard error, unless all went well.
+fn tell(alloc: Global, rt: &impl Eprint, status: &Status) {
+    if matches!(status, Status::Done) {
+        return;
+    }
+    if let Ok(text) = status_text(alloc, status) {
+        let _ = rt.eprintln(text.as_str());
+    }
+}
+
+fn main(rt: HostRuntime) -> ExitCode {
+    let status = run(&rt);
+    tell(rt.alloc(), &rt, &status);
+    ExitCode::from(exit_number(&status))
 }

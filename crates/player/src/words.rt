@@ -1,6 +1,6 @@
 //! The words of a line and of the command.
 
-ghost use Rattle.std.specs.Prelude.{◌≡◌, ◌∷◌, [], IfNone, IfSome, map, string_bytes, option_map};
+ghost use Rattle.std.specs.Prelude.{◌≡◌, ◌≤◌, ◌∷◌, [], IfNone, IfSome, map, string_bytes, option_map};
 ghost use Rattle.std.specs.Str.{all_ascii_digits};
 ghost use Rattle.player.specs.Words.{is_whole, whole_up_to, pieces, form_of};
 ghost use Rattle.player.specs.FormView.{form_view};
@@ -35,7 +35,8 @@ fn is_whole(word: &[u8]) -> bool
 
 /// The whole number that the word writes, where it is at most `most`.
 pub fn whole_up_to(word: &str, most: u64) -> Option<u64>
-    ensures { result ≡ whole_up_to most word.now }
+    ensures number { result ≡ whole_up_to most word.now }
+    ensures most { IfSome result (λ n. n ≤ most) }
 {
     if !is_whole(word.as_bytes()) {
         return None;

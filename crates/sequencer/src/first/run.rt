@@ -180,6 +180,7 @@ impl FirstRun {
         requires clock { self.old.clock ≤ clock }
         requires number { self.old.frame + 1 < 2 ^ 62 }
         ensures world { OnOk result ((b : Budget) → IsBudget b → b.clock ≡ clock → world_of project.now self.new ≡ frame b (world_of project.now self.old)) }
+        ensures number { OnOk result (self.new.frame ≡ self.old.frame + 1) }
         ensures fits { OnOk result (IsRunOf project.now self.new) }
     {
         run_threads(self.alloc, project, &self.threads, &mut self.values)?;

@@ -1,0 +1,215 @@
+//! The top call.
+
+ghost use Rattle.std.specs.Prelude.{◌≡◌, ◌≢◌, ◌⊎◌, ◌↔◌, ℕ, ◌+◌, ◌^◌, ◌*◌, ◌<◌, ◌≤◌, ◌++◌, [], length, map, string_bytes, Some, None, OnOk, IfOk, IfSome, List};
+ghost use Rattle.std.specs.FinMap.{get};
+ghost use Rattle.sv_channels.specs.Counts.{Rose, NoneFell};
+ghost use Rattle.sv_channels.specs.Sink.{Gained};
+ghost use Rattle.sequencer.specs.Frame.{first_world};
+ghost use Rattle.sequencer.specs.FirstRun.{world_of, IsRunOf};
+ghost use Rattle.player.specs.Words.{form_of, Form as FormOf};
+ghost use Rattle.player.specs.Lines.{lines_of};
+ghost use Rattle.player.specs.FormView.{form_view};
+ghost use Rattle.player.specs.Output.{played, world_after, frames_after};
+ghost use Rattle.player.specs.Promise.{FetchFailed, FaultCause, AnswerCause, Tells, Wrote, IsSilent, Promised, Loading, LoadsFile, outcome_of};
+ghost use Rattle.player.specs.GoodLine.{IsGood};
+ghost use Rattle.player.specs.Stages.{Fetched, Loaded, LineWrote, PlayedTo};
+
+use crate::frame_text::frame_text;
+use crate::lines::{Line, line_of, next_line};
+use crate::status::{LineRefusal, Refusal, Status, Which};
+use crate::words::{Form, form_of};
+use block_table::{FirstProject, FirstRefusal, first_form};
+use project_json::{JsonRefusal, Text, read};
+use sequencer::{Budget, FirstRun};
+use std::alloc::Global;
+use sv_channels::{FetchError, Shelf, Sink, SinkError};
+
+const PROJECT_LIMIT: u64 = 33_554_432;
+
+const SCRIPT_LIMIT: u64 = 16_777_216;
+
+// Fetches a file that the words name.
+fn fetch<H: Shelf>(
+    alloc: Global,
+    shelf: &mut H,
+    name: &str,
+    which: Which,
+    limit: u64,
+) -> Result<Vec<u8>, Status>
+    ensures answer { Fetched (H.held shelf.old) name.now which limit (Rose (H.fetch_faults shelf.old name.now) (H.fetch_faults shelf.new name.now)) (λ v. v.items) result }
+    ensures held { H.held shelf.new ≡ H.held shelf.old }
+    ensures fetch_faults { NoneFell (H.fetch_faults shelf.old) (H.fetch_faults shelf.new) }
+{
+    match shelf.fetch(alloc, name, limit) {
+        Ok(bytes) => Ok(bytes),
+        Err(FetchError::Failed) => Err(Status::ReadFault),
+        Err(FetchError::TooLarge { limit }) => Err(Status::TooLarge { which, limit }),
+        Err(FetchError::NoMemory) => Err(Status::NoMemory),
+    }
+}
+
+// The project that the bytes of a file tell.
+fn load(alloc: Global, bytes: &[u8]) -> Result<FirstProject, Status>
+    requires { length bytes.now < 2 ^ 32 }
+    ensures { Loaded bytes.now result }
+{
+    let document = match read(alloc, bytes) {
+        Ok(document) => document,
+        Err(JsonRefusal::Syntax { at }) => {
+            return Err(Status::BadProject(Refusal::Json(JsonRefusal::Syntax { at })));
+        }
+        Err(JsonRefusal::NoMemory) => return Err(Status::NoMemory),
+    };
+    match first_form(alloc, &document) {
+        Ok(project) => Ok(project),
+        Err(FirstRefusal::Shape) => Err(Status::BadProject(Refusal::Shape {
+            path: Text::new(alloc),
+        })),
+        Err(FirstRefusal::NoMemory) => Err(Status::NoMemory),
+    }
+}
+
+// Makes a frame, and writes its text.
+fn play_frame<K: Sink>(
+    alloc: Global,
+    project: &FirstProject,
+    run: &mut FirstRun,
+    budget: Budget,
+    out: &mut K,
+) -> Result<(), Status>
+    requires fits { IsRunOf project.now run.old }
+    requires good { IsGood run.old.clock (Line.Frame budget) }
+    requires number { run.old.frame + 1 < 2 ^ 62 }
+    ensures fits { OnOk result (IsRunOf project.now run.new) }
+    ensures world { OnOk result (world_of project.now run.new ≡ world_after project.now (world_of project.now run.old) (Line.Frame budget)) }
+    ensures number { OnOk result (run.new.frame ≡ run.old.frame + 1) }
+    ensures wrote { LineWrote (K.written out.old) (K.written out.new) (frames_after project.now (world_of project.now run.old) (Line.Frame budget)) (Rose (K.faults out.old) (K.faults out.new)) result }
+    ensures faults { K.faults out.old ≤ K.faults out.new }
+{
+    let Ok(()) = run.frame(project, budget.clock) else {
+        return Err(Status::NoMemory);
+    };
+    let Ok(text) = frame_text(alloc, project, run) else {
+        return Err(Status::NoMemory);
+    };
+    match out.write(alloc, &text) {
+        Ok(()) => Ok(()),
+        Err(SinkError::Failed) => Err(Status::WriteFault),
+        Err(SinkError::NoMemory) => Err(Status::NoMemory),
+    }
+}
+
+// Plays a good line.
+fn play_line<K: Sink>(
+    alloc: Global,
+    project: &FirstProject,
+    run: &mut FirstRun,
+    line: Line,
+    out: &mut K,
+) -> Result<(), Status>
+    requires fits { IsRunOf project.now run.old }
+    requires good { IsGood run.old.clock line }
+    requires number { run.old.frame + 1 < 2 ^ 62 }
+    ensures fits { OnOk result (IsRunOf project.now run.new) }
+    ensures world { OnOk result (world_of project.now run.new ≡ world_after project.now (world_of project.now run.old) line) }
+    ensures number { OnOk result (run.new.frame ≤ run.old.frame + 1) }
+    ensures wrote { LineWrote (K.written out.old) (K.written out.new) (frames_after project.now (world_of project.now run.old) line) (Rose (K.faults out.old) (K.faults out.new)) result }
+    ensures faults { K.faults out.old ≤ K.faults out.new }
+{
+    match line {
+        Line::Nothing => Ok(()),
+        Line::Flag => match run.flag(project) {
+            Ok(()) => Ok(()),
+            Err(_) => Err(Status::NoMemory),
+        },
+        Line::Frame(budget) => play_frame(alloc, project, run, budget, out),
+    }
+}
+
+// Plays the lines of a script, from the first world on.
+fn play_lines<K: Sink>(alloc: Global, project: &FirstProject, script: &[u8], out: &mut K) -> Status
+    requires { length script.now ≤ 16777216 }
+    ensures cause { PlayedTo (played project.now 1 (first_world project.now) (lines_of script.now)).ending (Rose (K.faults out.old) (K.faults out.new)) result }
+    ensures bytes { Wrote (K.written out.old) (K.written out.new) (played project.now 1 (first_world project.now) (lines_of script.now)).frames result }
+    ensures faults { K.faults out.old ≤ K.faults out.new }
+{
+    let Ok(mut run) = FirstRun::open(alloc, project) else {
+        return Status::NoMemory;
+    };
+    let mut rest = script;
+    let mut number = 0u64;
+    while let Some((bytes, after)) = next_line(rest) {
+        number += 1;
+        rest = after;
+        let Some(line) = line_of(run.clock(), bytes) else {
+            return Status::BadScript(LineRefusal::UnknownLine { line: number });
+        };
+        match play_line(alloc, project, &mut run, line, out) {
+            Ok(()) => {}
+            Err(status) => return status,
+        }
+    }
+    Status::Done
+}
+
+// Fetches the files that the form names, loads the project and plays the script.
+fn run<H: Shelf, K: Sink>(alloc: Global, form: &Form<'_>, shelf: &mut H, out: &mut K) -> Status
+    ensures fault { FaultCause (FetchFailed (H.fetch_faults shelf.old) (H.fetch_faults shelf.new) (form_view form.now)) (Rose (K.faults out.old) (K.faults out.new)) result }
+    ensures exact { IfSome (H.held shelf.old) (λ files. (loading : Loading) → LoadsFile (get files form.now.project.now) loading → AnswerCause (outcome_of files (form_view form.now) loading).ending result) }
+    ensures bytes { IfSome (H.held shelf.old) (λ files. (loading : Loading) → LoadsFile (get files form.now.project.now) loading → Wrote (K.written out.old) (K.written out.new) (outcome_of files (form_view form.now) loading).frames result) }
+    ensures silent { IsSilent (K.written out.old) (K.written out.new) result }
+    ensures held { H.held shelf.new ≡ H.held shelf.old }
+    ensures no_usage { result ≢ Status.Usage }
+{
+    let project = match fetch(alloc, shelf, form.project, Which::Project, PROJECT_LIMIT) {
+        Ok(bytes) => bytes,
+        Err(status) => return status,
+    };
+    let project = match load(alloc, &project) {
+        Ok(project) => project,
+        Err(status) => return status,
+    };
+    let script = match fetch(alloc, shelf, form.script, Which::Script, SCRIPT_LIMIT) {
+        Ok(bytes) => bytes,
+        Err(status) => return status,
+    };
+    play_lines(alloc, &project, &script, out)
+}
+
+/// Plays a project: `play PROJECT SCRIPT SEED -`, the command's words without the program's name.
+///
+/// The project and the script are fetched from the shelf, and each frame line of the script writes
+/// one frame text by one write. specs/Promise.antt says what the clauses mean. After a fault no
+/// further call is made on the shelf or the sink.
+pub fn play<H: Shelf, K: Sink>(
+    alloc: Global,
+    words: &[String],
+    shelf: &mut H,
+    out: &mut K,
+) -> Status
+    // Usage exactly where the words have no form.
+    ensures usage { (result ≡ Status.Usage) ↔ (form_of (map string_bytes words.now) ≡ None) }
+
+    // A fault only where its count rose.
+    ensures cause { (form : FormOf) → form_of (map string_bytes words.now) ≡ Some form → FaultCause (FetchFailed (H.fetch_faults shelf.old) (H.fetch_faults shelf.new) form) (Rose (K.faults out.old) (K.faults out.new)) result }
+
+    // Every other status but want of memory exactly where the outcome ends so.
+    ensures exact { Promised (H.held shelf.old) (map string_bytes words.now) (λ form o. AnswerCause o.ending result) }
+
+    // Where no count rose, the answer tells the outcome's ending, or memory ran out.
+    ensures complete { Promised (H.held shelf.old) (map string_bytes words.now) (λ form o.
+        ¬ FetchFailed (H.fetch_faults shelf.old) (H.fetch_faults shelf.new) form → ¬ Rose (K.faults out.old) (K.faults out.new)
+        → Tells result o.ending ⊎ (result ≡ Status.NoMemory)) }
+
+    // What was written.
+    ensures bytes { Promised (H.held shelf.old) (map string_bytes words.now) (λ form o. Wrote (K.written out.old) (K.written out.new) o.frames result) }
+    ensures silent { IsSilent (K.written out.old) (K.written out.new) result }
+
+    // The shelf holds what it held.
+    ensures held { H.held shelf.new ≡ H.held shelf.old }
+{
+    match form_of(words) {
+        None => Status::Usage,
+        Some(form) => run(alloc, &form, shelf, out),
+    }
+}
