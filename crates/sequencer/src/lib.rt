@@ -5,4 +5,7 @@ mod budget;
 mod first;
 
 pub use budget::Budget;
-pub use first::{FirstNumber, FirstRun, FirstThread, FirstValue};
+pub use first::FirstRun;
+
+#[cfg(test)]
+mod tests;

@@ -9,7 +9,7 @@ use std::alloc::{AllocError, Global};
 
 /// A whole number, or an infinity. Contracts see it as the number of millionths.
 #[derive(Clone, Copy, Debug, PartialEq, Eq)]
-pub enum FirstNumber {
+pub(crate) enum FirstNumber {
     Whole(i64),
     Infinite,
     NegativeInfinite,
@@ -19,7 +19,7 @@ const LARGEST: i64 = 9_000_000_000_000;
 
 impl FirstNumber {
     /// The sum with a whole number.
-    pub fn plus(self, whole: i32) -> FirstNumber
+    pub(crate) fn plus(self, whole: i32) -> FirstNumber
         ensures { number_view result ≡ sum (number_view self) (fixed (whole *ℤ pos 1000000)) }
     {
         match self {
@@ -39,7 +39,7 @@ impl FirstNumber {
     }
 
     /// The text of the number.
-    pub fn text(self, alloc: Global) -> Result<Text, AllocError>
+    pub(crate) fn text(self, alloc: Global) -> Result<Text, AllocError>
         ensures { IfOk result (λ t. t ≡ number_text (number_view self)) }
     {
         match self {

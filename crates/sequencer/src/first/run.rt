@@ -149,7 +149,7 @@ impl FirstRun {
     ghost use Rattle.sequencer.specs.FirstRun.{world_of, IsRunOf};
 
     /// The first world of a project: clock 0, no frame, the variables as the file has them, no
-    /// thread.
+    /// thread. The error comes where memory runs out.
     pub fn open(alloc: Global, project: &FirstProject) -> Result<FirstRun, AllocError>
         ensures world { IfOk result (λ run. world_of project.now run ≡ first_world project.now) }
         ensures fits { IfOk result (IsRunOf project.now) }
@@ -163,7 +163,9 @@ impl FirstRun {
         })
     }
 
-    /// The line `flag`. After an error the run is only dropped.
+    /// The line `flag`: all threads stop, and each green flag hat gets one (scratch-vm,
+    /// engine/runtime.js, greenFlag). The error comes where memory runs out; the run is then only
+    /// dropped.
     pub fn flag(&mut self, project: &FirstProject) -> Result<(), AllocError>
         requires { IsRunOf project.now self.old }
         ensures world { OnOk result (world_of project.now self.new ≡ flag_line project.now (world_of project.now self.old)) }
@@ -173,8 +175,9 @@ impl FirstRun {
         Ok(())
     }
 
-    /// A frame line with the clock, in milliseconds. With every budget in range it is the same
-    /// frame. After an error the run is only dropped.
+    /// A frame line with the clock, in milliseconds (scratch-vm, engine/runtime.js, _step). With
+    /// every budget in range it is the same frame. The error comes where memory runs out; the run is
+    /// then only dropped.
     pub fn frame(&mut self, project: &FirstProject, clock: u64) -> Result<(), AllocError>
         requires fits { IsRunOf project.now self.old }
         requires clock { self.old.clock ≤ clock }
@@ -182,6 +185,7 @@ impl FirstRun {
         ensures world { OnOk result ((b : Budget) → IsBudget b → b.clock ≡ clock → world_of project.now self.new ≡ frame b (world_of project.now self.old)) }
         ensures number { OnOk result (self.new.frame ≡ self.old.frame + 1) }
         ensures fits { OnOk result (IsRunOf project.now self.new) }
+        ensures clock { OnOk result (self.new.clock ≡ clock) }
     {
         run_threads(self.alloc, project, &self.threads, &mut self.values)?;
         self.threads.clear();

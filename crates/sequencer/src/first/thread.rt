@@ -3,8 +3,8 @@
 /// A thread: its target, the hat block that it was started for, and the block that it does next,
 /// each by its place.
 #[derive(Clone, Copy, Debug, PartialEq, Eq)]
-pub struct FirstThread {
-    pub target: u32,
-    pub hat: u32,
-    pub next: Option<u32>,
+pub(crate) struct FirstThread {
+    pub(crate) target: u32,
+    pub(crate) hat: u32,
+    pub(crate) next: Option<u32>,
 }

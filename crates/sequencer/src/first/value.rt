@@ -12,7 +12,7 @@ use std::marker::Model;
 
 /// The value of a variable: a number with its text, or a text. Contracts see it as the value.
 #[derive(Debug, Drop)]
-pub struct FirstValue {
+pub(crate) struct FirstValue {
     number: Option<FirstNumber>,
     text: Text,
 }
@@ -39,7 +39,7 @@ impl FirstValue {
     ghost use Rattle.sequencer.specs.FirstValue.{number_view};
 
     /// A text as a value.
-    pub fn of_text(alloc: Global, chars: &Text) -> Result<FirstValue, AllocError>
+    pub(crate) fn of_text(alloc: Global, chars: &Text) -> Result<FirstValue, AllocError>
         ensures { IfOk result (λ v. v ≡ text chars.now) }
     {
         Ok(FirstValue {
@@ -49,7 +49,7 @@ impl FirstValue {
     }
 
     /// The text of the value.
-    pub fn as_text(&self) -> &Text
+    pub(crate) fn as_text(&self) -> &Text
         ensures { result.now ≡ text_of self.now }
     {
         &self.text
@@ -66,7 +66,7 @@ impl FirstValue {
     }
 
     /// The sum of the value's number and the number of a text.
-    pub fn changed_by(&self, alloc: Global, chars: &Text) -> Result<FirstValue, AllocError>
+    pub(crate) fn changed_by(&self, alloc: Global, chars: &Text) -> Result<FirstValue, AllocError>
         ensures { IfOk result (λ v. v ≡ number (sum (number_of self.now) (text_number chars.now))) }
     {
         let sum = self.number().plus(whole_or_zero(chars.as_str()));
