@@ -33,10 +33,13 @@ impl<'a> Places<'a> {
             place_at self.new q
             ≡ option_or (place_at self.old q) (if bytes_eq name.now q then Some place else None)) }
     {
-        if !self.places.contains_key(name) {
-            self.places.insert(name, place)?;
+        match self.places.insert(name, place)? {
+            Some(earlier) => {
+                self.places.insert(name, earlier)?;
+                Ok(())
+            }
+            None => Ok(()),
         }
-        Ok(())
     }
 
     // The place of the name.
