@@ -70,3 +70,6 @@ fn main(rt: HostRuntime) -> ExitCode {
     tell(rt.alloc(), &rt, &status);
     ExitCode::from(exit_number(&status))
 }
+
+#[cfg(test)]
+mod tests;

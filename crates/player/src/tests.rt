@@ -1,0 +1,199 @@
+use crate::status::{LineRefusal, Refusal, Status, Which, exit_number, status_text};
+use crate::top::play;
+use project_json::JsonRefusal;
+use std::alloc::{AllocError, Global};
+use std::test::Fail;
+use sv_channels::{MemoryShelf, MemorySink, NamedBytes, Numbers, Pairs, SteadySink};
+
+// The base file up to the blocks of the stage.
+const BEFORE_STAGE: &str =
+    "{\"targets\":[{\"isStage\":true,\"name\":\"Stage\",\"variables\":{\"v\":[\"n\",0]},\"lists\":{\"k\":[\"l\",[]]},\"broadcasts\":{},\"blocks\":";
+
+// From there to the blocks of the sprite Cat.
+const BEFORE_CAT: &str =
+    ",\"comments\":{},\"currentCostume\":0,\"costumes\":[{\"name\":\"b1\",\"dataFormat\":\"svg\",\"assetId\":\"0\",\"md5ext\":\"0.svg\",\"rotationCenterX\":240,\"rotationCenterY\":180}],\"sounds\":[{\"name\":\"pop\",\"assetId\":\"1\",\"dataFormat\":\"wav\",\"md5ext\":\"1.wav\"}],\"volume\":100,\"layerOrder\":0,\"tempo\":60},{\"isStage\":false,\"name\":\"Cat\",\"variables\":{},\"lists\":{},\"broadcasts\":{},\"blocks\":";
+
+// From there to the end.
+const AFTER_CAT: &str =
+    ",\"comments\":{},\"currentCostume\":0,\"costumes\":[{\"name\":\"c1\",\"dataFormat\":\"svg\",\"assetId\":\"2\",\"md5ext\":\"2.svg\"}],\"sounds\":[],\"volume\":100,\"layerOrder\":1,\"visible\":true,\"x\":0,\"y\":0,\"size\":100,\"direction\":90,\"draggable\":false,\"rotationStyle\":\"all around\"}],\"monitors\":[{\"id\":\"v\",\"mode\":\"default\",\"opcode\":\"data_variable\",\"params\":{\"VARIABLE\":\"n\"},\"spriteName\":null,\"value\":0,\"visible\":true}],\"extensions\":[],\"meta\":{\"semver\":\"3.0.0\"}}";
+
+const SET_AND_CHANGE: &str =
+    "{\"a1\":{\"opcode\":\"event_whenflagclicked\",\"next\":\"a2\",\"topLevel\":true},\"a2\":{\"opcode\":\"data_setvariableto\",\"next\":\"a3\",\"inputs\":{\"VALUE\":[1,[4,\"5\"]]},\"fields\":{\"VARIABLE\":[\"n\",\"v\"]}},\"a3\":{\"opcode\":\"data_changevariableby\",\"next\":null,\"inputs\":{\"VALUE\":[1,[4,\"2\"]]},\"fields\":{\"VARIABLE\":[\"n\",\"v\"]}}}";
+
+const SET_TO_ONE: &str =
+    "{\"a1\":{\"opcode\":\"event_whenflagclicked\",\"next\":\"a2\",\"topLevel\":true},\"a2\":{\"opcode\":\"data_setvariableto\",\"inputs\":{\"VALUE\":[1,[4,\"1\"]]},\"fields\":{\"VARIABLE\":[\"n\",\"v\"]}}}";
+
+const SET_TO_TWO: &str =
+    "{\"a1\":{\"opcode\":\"event_whenflagclicked\",\"next\":\"a2\",\"topLevel\":true},\"a2\":{\"opcode\":\"data_setvariableto\",\"inputs\":{\"VALUE\":[1,[4,\"2\"]]},\"fields\":{\"VARIABLE\":[\"n\",\"v\"]}}}";
+
+// The base file with these blocks of the stage and of Cat.
+fn project(alloc: Global, stage: &str, cat: &str) -> Result<String, AllocError> {
+    format!(in alloc; "{BEFORE_STAGE}{stage}{BEFORE_CAT}{cat}{AFTER_CAT}")
+}
+
+// A shelf with a project `p` and a script `s`.
+fn shelf(alloc: Global, project: &[u8], script: &str) -> Result<MemoryShelf, AllocError> {
+    let mut files = NamedBytes::new(alloc);
+    files.push("p", project)?;
+    files.push("s", script.as_bytes())?;
+    Ok(MemoryShelf::new(alloc, files, Numbers::new(alloc)))
+}
+
+fn words(alloc: Global, script: &str) -> Result<Vec<String>, AllocError> {
+    let mut words = Vec::new(alloc);
+    for word in ["play", "p", script, "1", "-"] {
+        words.push(String::from_str(alloc, word)?)?;
+    }
+    Ok(words)
+}
+
+// What `play` answers for the project and the script, and what it writes.
+fn played(alloc: Global, project: &[u8], script: &str) -> Result<(Status, SteadySink), AllocError> {
+    let mut shelf = shelf(alloc, project, script)?;
+    let mut out = SteadySink::new(alloc);
+    let status = play(alloc, &words(alloc, "s")?, &mut shelf, &mut out);
+    Ok((status, out))
+}
+
+// The first frame of the base file, with this value of n.
+fn frame(alloc: Global, value: &str) -> Result<String, AllocError> {
+    format!(in alloc;
+        "frame 1 clock 0 words 0\nstage 1 \"b1\"\nsprite 1 \"Cat\" original shown 0 0 90 100 1 \"c1\" \"all around\"\nmonitor \"n\" \"{value}\"\nend\n"
+    )
+}
+
+#[test]
+fn the_opening_frame(rt: HostRuntime) -> Result<(), Fail> {
+    let alloc = rt.alloc();
+    let base = project(alloc, "{}", "{}")?;
+    let (status, out) = played(alloc, base.as_bytes(), "flag\nframe 0 30 1000\n")?;
+    assert!(rt; matches!(status, Status::Done));
+    assert_eq!(rt; out.written(), frame(alloc, "0")?.as_bytes());
+    Ok(())
+}
+
+#[test]
+fn set_and_change(rt: HostRuntime) -> Result<(), Fail> {
+    let alloc = rt.alloc();
+    let base = project(alloc, "{}", SET_AND_CHANGE)?;
+    let (status, out) = played(alloc, base.as_bytes(), "flag\nframe 0 1 0\n")?;
+    assert!(rt; matches!(status, Status::Done));
+    assert_eq!(rt; out.written(), frame(alloc, "7")?.as_bytes());
+    Ok(())
+}
+
+#[test]
+fn the_stage_starts_last(rt: HostRuntime) -> Result<(), Fail> {
+    let alloc = rt.alloc();
+    let base = project(alloc, SET_TO_TWO, SET_TO_ONE)?;
+    let (status, out) = played(alloc, base.as_bytes(), "flag\nframe 0 1 0\n")?;
+    assert!(rt; matches!(status, Status::Done));
+    assert_eq!(rt; out.written(), frame(alloc, "2")?.as_bytes());
+    Ok(())
+}
+
+#[test]
+fn an_empty_script_and_an_unknown_line(rt: HostRuntime) -> Result<(), Fail> {
+    let alloc = rt.alloc();
+    let base = project(alloc, "{}", "{}")?;
+    let (status, out) = played(alloc, base.as_bytes(), "")?;
+    assert!(rt; matches!(status, Status::Done));
+    assert_eq!(rt; out.written().len(), 0);
+    let (status, out) = played(alloc, base.as_bytes(), "stop\n")?;
+    assert!(rt;
+        matches!(
+            status,
+            Status::BadScript(LineRefusal::UnknownLine { line: 1 })
+        )
+    );
+    assert_eq!(rt; out.written().len(), 0);
+    Ok(())
+}
+
+#[test]
+fn a_write_that_fails(rt: HostRuntime) -> Result<(), Fail> {
+    let alloc = rt.alloc();
+    let base = project(alloc, "{}", "{}")?;
+    let mut shelf = shelf(alloc, base.as_bytes(), "frame 0 1 0\nframe 0 1 0\n")?;
+    let mut fails = Pairs::new(alloc);
+    fails.push(1, 5)?;
+    let mut out = MemorySink::new(alloc, fails);
+    let status = play(alloc, &words(alloc, "s")?, &mut shelf, &mut out);
+    assert!(rt; matches!(status, Status::WriteFault));
+    let expected = format!(in alloc; "{}frame", frame(alloc, "0")?)?;
+    assert_eq!(rt; out.written(), expected.as_bytes());
+    Ok(())
+}
+
+#[test]
+fn files_that_are_not_fetched(rt: HostRuntime) -> Result<(), Fail> {
+    let alloc = rt.alloc();
+    let base = project(alloc, "{}", "{}")?;
+    let mut small = shelf(alloc, base.as_bytes(), "")?;
+    let mut out = SteadySink::new(alloc);
+    let status = play(alloc, &words(alloc, "missing")?, &mut small, &mut out);
+    assert!(rt; matches!(status, Status::ReadFault));
+    let large = vec![in alloc; b' '; 33_554_433]?;
+    let (status, out) = played(alloc, &large, "")?;
+    assert!(rt;
+        matches!(
+            status,
+            Status::TooLarge {
+                which: Which::Project,
+                limit: 33_554_432
+            }
+        )
+    );
+    assert_eq!(rt; out.written().len(), 0);
+    Ok(())
+}
+
+#[test]
+fn projects_that_are_refused(rt: HostRuntime) -> Result<(), Fail> {
+    let alloc = rt.alloc();
+    let (status, _) = played(alloc, b"", "")?;
+    assert!(rt;
+        matches!(
+            status,
+            Status::BadProject(Refusal::Json(JsonRefusal::Syntax { .. }))
+        )
+    );
+    let (status, _) = played(alloc, b"{}", "")?;
+    assert!(rt; matches!(status, Status::BadProject(Refusal::Shape { .. })));
+    Ok(())
+}
+
+#[test]
+fn words_that_are_no_form(rt: HostRuntime) -> Result<(), Fail> {
+    let alloc = rt.alloc();
+    let base = project(alloc, "{}", "{}")?;
+    let mut shelf = shelf(alloc, base.as_bytes(), "")?;
+    let mut out = SteadySink::new(alloc);
+    let mut short = Vec::new(alloc);
+    short.push(String::from_str(alloc, "play")?)?;
+    short.push(String::from_str(alloc, "p")?)?;
+    let status = play(alloc, &short, &mut shelf, &mut out);
+    assert!(rt; matches!(status, Status::Usage));
+    Ok(())
+}
+
+#[test]
+fn texts_and_numbers_of_statuses(rt: HostRuntime) -> Result<(), Fail> {
+    let alloc = rt.alloc();
+    let line = Status::BadScript(LineRefusal::UnknownLine { line: 12 });
+    assert_eq!(rt; status_text(alloc, &line)?.as_str(), "BadScript 2 12");
+    assert_eq!(rt; exit_number(&line), 5);
+    assert_eq!(rt;
+        status_text(alloc, &Status::WriteFault)?.as_str(),
+        "WriteFault"
+    );
+    assert_eq!(rt; exit_number(&Status::WriteFault), 3);
+    assert_eq!(rt;
+        status_text(alloc, &Status::ReadFault)?.as_str(),
+        "ReadFault"
+    );
+    assert_eq!(rt; exit_number(&Status::ReadFault), 2);
+    assert_eq!(rt; status_text(alloc, &Status::Usage)?.as_str(), "Usage");
+    assert_eq!(rt; exit_number(&Status::Usage), 1);
+    Ok(())
+}
