@@ -5,7 +5,7 @@ use Rattle.std.proofs.Math.Seq.{drop-append_seam, set-append_seam}
 use Rattle.sequencer.specs.declared.budget.Budget.{Budget}
 use Rattle.sequencer.specs.Value.{Value}
 use Rattle.sequencer.specs.Script.{Statement}
-use Rattle.sequencer.specs.World.{running, done, is_done, Thread, World, IsBudget}
+use Rattle.sequencer.specs.World.{running, done, is_done, Thread, World}
 use Rattle.sequencer.specs.Slice.{executed, slice}
 use Rattle.sequencer.specs.Pass.{Passed, next_alive, after_slice, turn, visit, pass_from, without_done, pass}
 use Rattle.sequencer.specs.Frame.{passes_on, passes, numbered, frame}
@@ -93,9 +93,9 @@ passes_ready n [] w vs r h = refl
 passes_ready n (t ∷ ts) w vs r h = ap (λ p. passes_on p (passes n)) (pass_ready (t ∷ ts) w vs r h)
 
 -- a frame with any budget in range
-pub frame_ready : (b : Budget) (w : World) → IsBudget b → AreReady w.threads → length w.threads ≤ 65536
+pub frame_ready : (b : Budget) (w : World) → 1 ≤ b.passes → AreReady w.threads → length w.threads ≤ 65536
     → frame b w ≡ record { clock = b.clock; frame = w.frame + 1; values = run_all w.threads w.values; threads = []; redraw = false }
 frame_ready b w h r few =
     let start = record w { clock = b.clock; redraw = false } in
-    let one : b.passes ≡ suc (b.passes - 1) = let s = h.some_passes in omega arith in
+    let one : b.passes ≡ suc (b.passes - 1) = omega arith in
     ap (λ n. numbered (passes n start)) one ∙ ap numbered (passes_ready (b.passes - 1) w.threads start w.values r few)

@@ -7,7 +7,7 @@ use Rattle.block_table.specs.FirstOrder.{executable_order}
 use Rattle.sequencer.specs.declared.budget.Budget.{Budget}
 use Rattle.sequencer.specs.declared.first.thread.FirstThread.{FirstThread}
 use Rattle.sequencer.specs.Value.{Value}
-use Rattle.sequencer.specs.World.{IsBudget, Thread}
+use Rattle.sequencer.specs.World.{Thread}
 use Rattle.sequencer.specs.Script.{statements}
 use Rattle.sequencer.specs.Frame.{frame, flag_line, blocks_at}
 use Rattle.sequencer.specs.Executed.{all_executed}
@@ -35,7 +35,7 @@ flag_fits p s ts r e = record {
 }
 
 pub frame_world : (p : Project) (s : State) (clock : ℕ) (vs : List Value) (ts : List FirstThread) → IsRunOf p s → vs ≡ all_run p s.threads s.values → ts ≡ []
-    → (b : Budget) → IsBudget b → b.clock ≡ clock → world_of p (record { clock = clock; frame = s.frame + 1; values = vs; threads = ts }) ≡ frame b (world_of p s)
+    → (b : Budget) → 1 ≤ b.passes → b.clock ≡ clock → world_of p (record { clock = clock; frame = s.frame + 1; values = vs; threads = ts }) ≡ frame b (world_of p s)
 frame_world p s clock vs ts r run none b range same =
     let w = world_of p s in
     let few = r.few in

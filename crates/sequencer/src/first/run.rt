@@ -4,7 +4,6 @@ ghost use Rattle.std.specs.Prelude.{◌≡◌, ℕ, ◌+◌, ◌^◌, [], ◌<�
 ghost use Rattle.block_table.specs.FirstProject.{AreLinked, ActsWithin};
 ghost use Rattle.block_table.specs.FirstOrder.{executable_order};
 ghost use Rattle.sequencer.specs.declared.budget.Budget.{Budget};
-ghost use Rattle.sequencer.specs.World.{IsBudget};
 ghost use Rattle.sequencer.specs.Executed.{all_executed};
 ghost use Rattle.sequencer.specs.FirstThreads.{heads_from, heads_of, AreThreadsOf, all_run};
 ghost use Rattle.sequencer.specs.Value.{text, text_of};
@@ -176,13 +175,13 @@ impl FirstRun {
     }
 
     /// A frame line with the clock, in milliseconds (scratch-vm, engine/runtime.js, _step). With
-    /// every budget in range it is the same frame. The error comes where memory runs out; the run is
-    /// then only dropped.
+    /// every budget of a pass or more it is the same frame. The error comes where memory runs out;
+    /// the run is then only dropped.
     pub fn frame(&mut self, project: &FirstProject, clock: u64) -> Result<(), AllocError>
         requires fits { IsRunOf project.now self.old }
         requires clock { self.old.clock ≤ clock }
         requires number { self.old.frame + 1 < 2 ^ 62 }
-        ensures world { OnOk result ((b : Budget) → IsBudget b → b.clock ≡ clock → world_of project.now self.new ≡ frame b (world_of project.now self.old)) }
+        ensures world { OnOk result ((b : Budget) → 1 ≤ b.passes → b.clock ≡ clock → world_of project.now self.new ≡ frame b (world_of project.now self.old)) }
         ensures number { OnOk result (self.new.frame ≡ self.old.frame + 1) }
         ensures fits { OnOk result (IsRunOf project.now self.new) }
         ensures clock { OnOk result (self.new.clock ≡ clock) }
