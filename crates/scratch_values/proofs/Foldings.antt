@@ -1,5 +1,5 @@
 -- A folded text stays as it is when it is folded again.
-use Rattle.std.proofs.Common.{◌≡◌, ℕ, true, List, [], ◌∷◌, ◌++◌, length, chars, encode_utf8, encode_utf8_all, IsUtf8, refl, sym, ap, ap₂, ◌∙◌, subst, arith, length-append}
+use Rattle.std.proofs.Common.{◌≡◌, ℕ, true, List, [], ◌∷◌, length, chars, encode_utf8, encode_utf8_all, IsUtf8, refl, ap, ap₂, ◌∙◌, subst, arith, length-append}
 use Rattle.std.specs.Str.{all_scalars}
 use Rattle.std.proofs.lemmas.Str.{chars-encodes, encode_same, length-encode, len_utf8_bounds}
 use Rattle.caseless.specs.Caseless.{default_case_fold}

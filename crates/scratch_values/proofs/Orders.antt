@@ -10,7 +10,7 @@ use Rattle.scratch_number.specs.declared.number.Num.TheVariants.{Fixed, Inf, Neg
 use Rattle.scratch_number.specs.Reading.{number_of}
 use Rattle.scratch_values.specs.declared.value.Value.{Value}
 use Rattle.scratch_values.specs.declared.value.Value.TheVariants.{Number, Truth, Text}
-use Rattle.scratch_values.specs.Comparison.{AreAlike, IsUpTo, both, compare, compare_by, folded_of, known, number_order, numeric, text_number, text_order}
+use Rattle.scratch_values.specs.Comparison.{AreAlike, IsUpTo, both, compare, compare_by, folded_of, known, number_order, numeric, text_order}
 
 -- where a number stands among the infinities, and the millionths of a finite one
 rank : Num → ℕ

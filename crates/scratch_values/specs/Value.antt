@@ -1,4 +1,4 @@
--- The text of a value.
+-- The text of a value (after scratch-vm, util/cast.js, toString).
 use Rattle.std.specs.Prelude.{ℕ, true, false, List, codes}
 use Rattle.scratch_number.specs.Text as numbers
 use Rattle.scratch_values.specs.declared.value.Value.{Value}

@@ -1,5 +1,4 @@
-use Rattle.std.proofs.Common.{◌≤◌, length, subst, arith}
-use Rattle.scratch_number.specs.declared.number.Num.{Num}
+use Rattle.std.proofs.Common.{subst, arith}
 use Rattle.scratch_number.specs.Number.{IsWithin}
 use Rattle.scratch_values.proofs.Numbers.{IsWithin-number_of, length-text_of}
 use Rattle.scratch_values.proofs.casts.number_text.Goals as goal
