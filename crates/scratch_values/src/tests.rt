@@ -1,9 +1,10 @@
 //! What no clause says.
 
-use crate::{Args, BoundText, Params, Value, VarName, VarRef};
+use crate::{Args, BoundText, Params, Value, VarName, VarRef, compare, to_text};
 use project_json::Text;
-use scratch_number::{Num, of_millionths};
+use scratch_number::{Num, div, of_millionths, of_whole};
 use std::alloc::{AllocError, Global};
+use std::cmp::Ordering::{Equal, Greater};
 use std::process::Abort;
 use std::test::Fail;
 
@@ -105,5 +106,20 @@ fn texts_are_bounded(rt: HostRuntime) -> Result<(), Fail> {
     let text = Text::from_str(rt.alloc(), long.as_str())?;
     assert!(rt; BoundText::new(text).is_none());
     assert!(rt; BoundText::from_str(rt.alloc(), long.as_str())?.is_none());
+    Ok(())
+}
+
+// Two thirds, an infinity and not-a-number, as a division gives them.
+#[test]
+fn quotients(rt: HostRuntime) -> Result<(), Fail> {
+    let alloc = rt.alloc();
+    let two_thirds = Value::Number(div(of_whole(2), of_whole(3)));
+    assert_eq!(rt; to_text(alloc, &two_thirds)?.as_str(), "0.666667");
+    let infinity = Value::Number(div(of_whole(1), of_whole(0)));
+    let five = Value::Number(of_whole(5));
+    assert_eq!(rt; compare(alloc, &infinity, &five)?, Greater);
+    let nan = Value::Number(div(of_whole(0), of_whole(0)));
+    let zero = Value::Number(of_whole(0));
+    assert_ne!(rt; compare(alloc, &nan, &zero)?, Equal);
     Ok(())
 }
