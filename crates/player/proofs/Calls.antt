@@ -1,11 +1,9 @@
 -- A call's stages against its outcome.
-use Rattle.std.proofs.Common.{◌≡◌, ℕ, ◌+◌, ◌*◌, ◌^◌, ◌<◌, ◌≤◌, Bool, true, false, cond, ltb, List, [], ◌∷◌, length, Option, None, Some, Result, Ok, Err, refl, sym, ap, ◌∙◌, subst, arith}
+use Rattle.std.proofs.Common.{◌≡◌, ℕ, ◌*◌, ◌^◌, ◌<◌, ◌≤◌, true, false, cond, ltb, List, length, Option, None, Some, Err, refl, sym, ap, ◌∙◌, subst, arith}
 use Rattle.std.specs.Prelude.{IfSome, IsSomeAnd}
 use Rattle.std.specs.FinMap.{get}
 use Rattle.std.proofs.lemmas.Bool.Decides.{nat_tests}
 use Rattle.sv_channels.specs.Files.{Files}
-use Rattle.project_json.specs.Tree.{Tree}
-use Rattle.project_json.specs.Grammar.{IsJson}
 use Rattle.project_json.proofs.Complete.{IsJson-one_tree}
 use Rattle.project_json.specs.declared.refusal.JsonRefusal.TheVariants as json_refusal
 use Rattle.block_table.specs.FirstProject.{Project}
@@ -13,8 +11,8 @@ use Rattle.block_table.specs.FirstForm.{project_of}
 use Rattle.sequencer.specs.Frame.{first_world}
 use Rattle.player.specs.Words.{Form}
 use Rattle.player.specs.Lines.{lines_of}
-use Rattle.player.specs.Output.{Ending, whole, bad_line, no_document, no_project, too_large, missing, Outcome, ends, played}
-use Rattle.player.specs.Promise.{Loading, not_json, not_first_form, loaded, Loads, LoadsFile, fetched, accepted, outcome_of, Tells, AnswerCause, Wrote}
+use Rattle.player.specs.Output.{Ending, too_large, Outcome, ends, played}
+use Rattle.player.specs.Promise.{Loading, not_json, not_first_form, loaded, Loads, LoadsFile, fetched, accepted, outcome_of, AnswerCause, Wrote}
 use Rattle.player.specs.Stages.{Fetched, Loaded, PlayedTo}
 use Rattle.player.specs.declared.status.Which.{Which}
 use Rattle.player.specs.declared.status.Which.TheVariants as which

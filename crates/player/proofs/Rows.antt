@@ -1,24 +1,22 @@
 -- Worked rows, computed by the definitions.
-use Rattle.std.specs.Prelude.{◌≡◌, ℕ, ◌*◌, ◌^◌, ◌+◌, List, [], ◌∷◌, ◌++◌, map, length, true, false, pos, Option, Some, None, codes, refl}
+use Rattle.std.specs.Prelude.{◌≡◌, ℕ, List, [], ◌∷◌, ◌++◌, true, false, pos, Some, None, codes, refl}
 use Rattle.std.specs.Fmt.{digits}
 use Rattle.std.specs.Str.{is_utf8, chars}
 use lib.Utf8.{encode}
 use Rattle.block_table.specs.declared.style.Style.TheVariants.{AllAround}
 use Rattle.block_table.specs.declared.first.types.FirstBlock.{FirstBlock}
 use Rattle.block_table.specs.declared.first.types.FirstTarget.{FirstTarget}
-use Rattle.block_table.specs.declared.first.types.FirstCode.{FirstCode}
 use Rattle.block_table.specs.declared.first.types.FirstCode.TheVariants.{Flag, Set, Change}
 use Rattle.block_table.specs.FirstProject.{Project}
 use Rattle.sequencer.specs.Script.{statements_within, statements}
-use Rattle.sequencer.specs.World.{World}
 use Rattle.sequencer.specs.Slice.{slice}
 use Rattle.sequencer.specs.Pass.{pass_from, pass}
-use Rattle.sequencer.specs.Frame.{passes, frame, first_world, flag_line}
-use Rattle.player.specs.Words.{form_of, whole_up_to, pieces}
+use Rattle.sequencer.specs.Frame.{passes, first_world}
+use Rattle.player.specs.Words.{form_of}
 use Rattle.player.specs.declared.lines.Line.TheVariants.{Nothing}
 use Rattle.player.specs.Lines.{lines_of, line_of}
 use Rattle.player.specs.FrameText.{quoted}
-use Rattle.player.specs.Output.{Outcome, Ending, whole, bad_line, played}
+use Rattle.player.specs.Output.{Outcome, whole, bad_line, played}
 use Rattle.player.specs.Promise.{flat}
 
 stage_target : FirstTarget

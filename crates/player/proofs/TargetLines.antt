@@ -1,12 +1,10 @@
 -- The lines of targets and monitors, one after another.
-use Rattle.std.proofs.Common.{◌≡◌, ℕ, ◌+◌, ◌<◌, List, [], ◌∷◌, ◌++◌, length, get_or, drop, Option, None, Some, refl, sym, ap, ◌∙◌, append_assoc}
-use Rattle.std.specs.Prelude.{slice_get, option_map}
+use Rattle.std.proofs.Common.{◌≡◌, ℕ, ◌+◌, ◌<◌, List, ◌++◌, length, get_or, drop, Some, sym, ap, ◌∙◌, append_assoc}
+use Rattle.std.specs.Prelude.{slice_get}
 use Rattle.std.proofs.lemmas.List.{at_drop_more}
 use Rattle.block_table.specs.declared.first.types.FirstTarget.{FirstTarget}
-use Rattle.block_table.specs.declared.first.types.FirstVariable.{FirstVariable}
 use Rattle.block_table.specs.FirstProject.{Project}
-use Rattle.sequencer.specs.Value.{Value, text_of}
-use Rattle.player.specs.FrameText.{line_at, target_line, target_lines, quoted, line, monitor_line}
+use Rattle.player.specs.FrameText.{line_at, target_line, target_lines}
 
 pub targets_step : (p : Project) (order : List ℕ) (k : ℕ) (t : FirstTarget) (old new : List ℕ) → k < length order
     → slice_get p.targets (get_or order k 0) ≡ Some t → new ≡ old ++ target_line k t

@@ -1,10 +1,10 @@
 -- Parts of frame texts, appended one after another.
-use Rattle.std.proofs.Common.{◌≡◌, ℕ, zero, suc, ◌+◌, ◌<◌, List, [], ◌∷◌, ◌++◌, refl, sym, ap, ◌∙◌, arith, append_assoc}
+use Rattle.std.proofs.Common.{◌≡◌, ℕ, zero, suc, ◌+◌, ◌<◌, List, [], ◌∷◌, ◌++◌, ap, ◌∙◌, arith, append_assoc}
 use Rattle.std.specs.Prelude.{codes}
 use Rattle.std.specs.Fmt.{decimal, signed_decimal}
 use Rattle.block_table.specs.declared.first.types.FirstTarget.{FirstTarget}
 use Rattle.player.specs.FrameText.{line, quoted, style_text, shown_text, costume_text, target_line}
-use Rattle.player.specs.SpriteLine.{look_text, sprite_front}
+use Rattle.player.specs.SpriteLine.{sprite_front}
 
 -- four numbers, each with a space
 pub four : (o a b c d : List ℕ) → (((o ++ a ++ 32 ∷ []) ++ b ++ 32 ∷ []) ++ c ++ 32 ∷ []) ++ d ++ 32 ∷ [] ≡ o ++ (a ++ 32 ∷ b ++ 32 ∷ c ++ 32 ∷ d ++ 32 ∷ [])

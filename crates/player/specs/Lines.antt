@@ -1,5 +1,5 @@
 -- The lines of an input script.
-use Rattle.std.specs.Prelude.{ℕ, ◌*◌, ◌^◌, nat_le, ◌==◌, ◌&&◌, List, [], ◌∷◌, Bool, true, false, Option, None, Some, bytes_eq, codes, if◌then◌else◌}
+use Rattle.std.specs.Prelude.{ℕ, ◌*◌, ◌^◌, nat_le, ◌==◌, ◌&&◌, List, [], ◌∷◌, Option, None, Some, bytes_eq, codes, if◌then◌else◌}
 use Rattle.std.specs.Str.{is_utf8}
 use Rattle.player.specs.declared.lines.Line.{Line}
 use Rattle.player.specs.declared.lines.Line.TheVariants.{Nothing, Flag, Frame}

@@ -2,7 +2,7 @@
 --
 -- The machine that it speaks of is that of sequencer/specs: threads with lists of statements, slices, passes, frames.
 -- A frame's text is that of FrameText; Output goes through the lines of a script; Words and Lines read words and lines.
-use Rattle.std.specs.Prelude.{◌≡◌, ◌⊎◌, ◌↔◌, ℕ, ◌*◌, ◌^◌, ◌≤◌, ◌<◌, nat_lt, List, [], ◌∷◌, ◌++◌, length, take, Option, None, Some, IfSome, IsSomeAnd, if◌then◌else◌, Bool}
+use Rattle.std.specs.Prelude.{◌≡◌, ◌⊎◌, ℕ, ◌*◌, ◌^◌, ◌≤◌, nat_lt, List, [], ◌∷◌, ◌++◌, length, take, Option, None, Some, IfSome, if◌then◌else◌}
 use Rattle.std.specs.FinMap.{get}
 use Rattle.sv_channels.specs.Counts.{Rose}
 use Rattle.sv_channels.specs.Files.{Files}

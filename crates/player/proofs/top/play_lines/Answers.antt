@@ -1,9 +1,9 @@
-use Rattle.std.proofs.Common.{◌≡◌, ◌+◌, List, ℕ, Some, sym, ap, ◌∙◌, arith}
+use Rattle.std.proofs.Common.{◌≡◌, ◌+◌, Some, sym, ap, ◌∙◌, arith}
 use Rattle.sequencer.specs.World.{World}
 use Rattle.sequencer.specs.Frame.{first_world}
 use Rattle.sequencer.specs.FirstRun.{world_of}
 use Rattle.player.specs.Lines.{lines_of, line_of}
-use Rattle.player.specs.Output.{Outcome, with_frames, world_after, frames_after, played}
+use Rattle.player.specs.Output.{with_frames, world_after, frames_after, played}
 use Rattle.player.proofs.Outputs.{part_more, err_wrote, turn_good}
 use Rattle.player.proofs.top.play_lines.Goals as goal
 

@@ -1,10 +1,8 @@
-use Rattle.std.proofs.Common.{◌≡◌, ℕ, ◌+◌, ◌≤◌, length, take, drop}
-use Rattle.sv_channels.specs.Sink.{Gained}
+use Rattle.std.proofs.Common.{◌+◌, ◌≤◌, length}
 use Rattle.sequencer.specs.Frame.{first_world}
 use Rattle.sequencer.specs.FirstRun.{world_of, IsRunOf}
 use Rattle.player.specs.Lines.{lines_of}
 use Rattle.player.specs.Output.{played}
-use Rattle.player.specs.Promise.{flat}
 use Rattle.player.proofs.Outputs.{IsPartOf}
 use Rattle.player.proofs.top.play_lines.Given as goal
 

@@ -1,4 +1,4 @@
-use Rattle.std.proofs.Common.{eqb, arith, ◌∙◌}
+use Rattle.std.proofs.Common.{eqb, arith}
 use Rattle.std.proofs.lemmas.List.Splits.{slice_split_first}
 use Rattle.player.proofs.Pieces.{split_none}
 use Rattle.player.proofs.words.cut.Goals as goal
