@@ -12,6 +12,7 @@ use Rattle.sequencer.specs.Script.{statements_within, statements}
 use Rattle.sequencer.specs.Slice.{slice}
 use Rattle.sequencer.specs.Pass.{pass_from, pass}
 use Rattle.sequencer.specs.Frame.{passes, first_world}
+use Rattle.sequencer.proofs.Computing.{counting}
 use Rattle.player.specs.Words.{form_of}
 use Rattle.player.specs.declared.lines.Line.TheVariants.{Nothing}
 use Rattle.player.specs.Lines.{lines_of, line_of}
@@ -65,7 +66,7 @@ row-set_and_change : flat (outcome (project_with set_and_change) (text (codes "f
     codes "sprite 1 \"Cat\" original shown 0 0 90 100 1 \"c1\" \"all around\"" ∷
     codes "monitor \"n\" \"7\"" ∷
     codes "end" ∷ [])
-unfolding stage_target cat_target project_with set_and_change text outcome statements_within statements slice pass_from pass passes digits is_utf8 chars encode
+unfolding stage_target cat_target project_with set_and_change text outcome statements_within statements slice pass_from pass passes counting digits is_utf8 chars encode
 row-set_and_change = refl
 
 -- an empty script is played to its end and writes nothing

@@ -8,8 +8,7 @@ use Rattle.block_table.specs.declared.first.types.FirstVariable.{FirstVariable}
 use Rattle.block_table.specs.declared.first.types.FirstMonitor.{FirstMonitor}
 use Rattle.block_table.specs.FirstProject.{Project}
 use Rattle.block_table.specs.FirstOrder.{executable_order}
-use Rattle.sequencer.specs.Value.{Value, text_of}
-use Rattle.sequencer.specs.World.{World}
+use Rattle.sequencer.specs.World.{Value, text_of, World}
 
 -- a byte of a quoted text: backslash, quote, line feed and carriage return are escaped
 abbrev pub escaped : ℕ → List ℕ

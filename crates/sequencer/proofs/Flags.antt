@@ -8,8 +8,8 @@ use Rattle.std.proofs.lemmas.List.Sums.{get_or-le-sum_by, sum_by-cons}
 use Rattle.block_table.specs.declared.first.types.FirstBlock.{FirstBlock}
 use Rattle.block_table.specs.FirstProject.{Project, AreLinked, IsWell}
 use Rattle.block_table.specs.FirstOrder.{executable_order}
+use Rattle.scratch_values.specs.declared.value.Value.{Value}
 use Rattle.sequencer.specs.declared.first.thread.FirstThread.{FirstThread}
-use Rattle.sequencer.specs.Value.{Value}
 use Rattle.sequencer.specs.World.{Thread}
 use Rattle.sequencer.specs.Frame.{blocks_at, is_flag_head, flag_threads_from, flag_threads_of, flag_threads}
 use Rattle.sequencer.specs.FirstThreads.{thread_of, IsThreadOf, AreThreadsOf, heads_from, heads_of, all_run}

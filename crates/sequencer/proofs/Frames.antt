@@ -2,8 +2,8 @@
 use Rattle.std.proofs.Common.{◌≡◌, ℕ, zero, suc, ◌+◌, ◌-◌, ◌≤◌, false, cond, List, [], ◌∷◌, ◌++◌, length, map, drop, Some, refl, sym, ap, ◌∙◌, arith, append_assoc, length-append}
 use Rattle.std.specs.Prelude.{filter, not, slice_set}
 use Rattle.std.proofs.Math.Seq.{drop-append_seam, set-append_seam}
+use Rattle.scratch_values.specs.declared.value.Value.{Value}
 use Rattle.sequencer.specs.declared.budget.Budget.{Budget}
-use Rattle.sequencer.specs.Value.{Value}
 use Rattle.sequencer.specs.Script.{Statement}
 use Rattle.sequencer.specs.World.{running, done, is_done, Thread, World}
 use Rattle.sequencer.specs.Slice.{executed, slice}

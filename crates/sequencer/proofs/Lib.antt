@@ -1,3 +1,4 @@
+pub mod Computing
 mod Rows
 pub mod Values
 pub mod Scripts

@@ -1,5 +1,5 @@
 -- Worked rows, computed by the definitions.
-use Rattle.std.specs.Prelude.{◌≡◌, ℕ, ◌*◌, ◌^◌, ◌-◌, List, [], ◌∷◌, map, length, true, false, pos, negsuc, Option, Some, None, codes, refl}
+use Rattle.std.specs.Prelude.{◌≡◌, ℕ, List, [], ◌∷◌, map, length, true, false, pos, Option, Some, None, codes, refl}
 use Rattle.std.specs.Fmt.{digits}
 use Rattle.block_table.specs.declared.style.Style.TheVariants.{AllAround}
 use Rattle.block_table.specs.declared.first.types.FirstBlock.{FirstBlock}
@@ -7,13 +7,13 @@ use Rattle.block_table.specs.declared.first.types.FirstTarget.{FirstTarget}
 use Rattle.block_table.specs.declared.first.types.FirstCode.{FirstCode}
 use Rattle.block_table.specs.declared.first.types.FirstCode.TheVariants.{Flag, Set, Change}
 use Rattle.block_table.specs.FirstProject.{Project}
-use Rattle.sequencer.specs.Number.{fixed, infinite, negative_infinite, sum, number_text}
+use Rattle.scratch_values.specs.Value.{text_of}
 use Rattle.sequencer.specs.declared.budget.Budget.{Budget}
-use Rattle.sequencer.specs.Value.{text_of}
 use Rattle.sequencer.specs.Script.{statements_within, statements}
 use Rattle.sequencer.specs.Slice.{slice}
 use Rattle.sequencer.specs.Pass.{pass_from, pass}
 use Rattle.sequencer.specs.Frame.{passes, frame, first_world, flag_line}
+use Rattle.sequencer.proofs.Computing.{counting}
 
 target : FirstTarget
 target = record { is_stage = false; name = codes "Cat"; costumes = codes "c1" ∷ []; costume = 0; layer_order = pos 1; visible = true; x = pos 0; y = pos 0; size = pos 100; direction = pos 90; style = AllAround }
@@ -42,7 +42,7 @@ after_flag p = map text_of (frame budget (flag_line p (first_world p))).values
 
 -- the sprite sets n to 5 and changes it by 2
 row-set_and_change : after_flag (project [] (hat ∷ block (Set 0 (codes "5")) (Some 2) ∷ block (Change 0 (codes "2")) None ∷ [])) ≡ codes "7" ∷ []
-unfolding target block hat project budget after_flag statements_within statements slice pass_from pass passes digits
+unfolding target block hat project budget after_flag statements_within statements slice pass_from pass passes counting
 row-set_and_change = refl
 
 -- the sprite sets n to 1, the stage sets it to 2: the stage starts last
@@ -54,22 +54,3 @@ row-stage_starts_last = refl
 row-no_threads : length (frame budget (flag_line (project (hat ∷ block (Set 0 (codes "2")) None ∷ []) []) (first_world (project [] [])))).threads ≡ 0
 unfolding target block hat project budget statements_within statements slice pass_from pass passes digits
 row-no_threads = refl
-
--- sums, in millionths
-row-largest : sum (fixed (pos (9 * 10 ^ 18 - 1000000))) (fixed (pos 1000000)) ≡ fixed (pos (9 * 10 ^ 18))
-row-largest = refl
-
-row-past_largest : sum (fixed (pos (9 * 10 ^ 18))) (fixed (pos 1)) ≡ infinite
-row-past_largest = refl
-
-row-past_least : sum (fixed (negsuc (9 * 10 ^ 18 - 1))) (fixed (negsuc 0)) ≡ negative_infinite
-row-past_least = refl
-
--- texts of numbers
-row-text_of_two_thirds : number_text (fixed (pos 666667)) ≡ codes "0.666667"
-unfolding digits
-row-text_of_two_thirds = refl
-
-row-text_below_zero : number_text (fixed (negsuc 1499999)) ≡ codes "-1.5"
-unfolding digits
-row-text_below_zero = refl

@@ -4,9 +4,9 @@ use Rattle.std.specs.Prelude.{reverse, flat_map}
 use Rattle.std.proofs.lemmas.List.{length-map}
 use Rattle.block_table.specs.FirstProject.{Project}
 use Rattle.block_table.specs.FirstOrder.{executable_order}
+use Rattle.scratch_values.specs.declared.value.Value.{Value}
 use Rattle.sequencer.specs.declared.budget.Budget.{Budget}
 use Rattle.sequencer.specs.declared.first.thread.FirstThread.{FirstThread}
-use Rattle.sequencer.specs.Value.{Value}
 use Rattle.sequencer.specs.World.{Thread}
 use Rattle.sequencer.specs.Script.{statements}
 use Rattle.sequencer.specs.Frame.{frame, flag_line, blocks_at}

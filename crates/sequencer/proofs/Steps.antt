@@ -8,8 +8,8 @@ use Rattle.std.proofs.lemmas.List.Concat.{flat_map-cons}
 use Rattle.block_table.specs.declared.first.types.FirstBlock.{FirstBlock}
 use Rattle.block_table.specs.FirstProject.{Project, IsWell}
 use Rattle.block_table.specs.FirstOrder.{executable_order}
+use Rattle.scratch_values.specs.declared.value.Value.{Value}
 use Rattle.sequencer.specs.declared.first.thread.FirstThread.{FirstThread}
-use Rattle.sequencer.specs.Value.{Value}
 use Rattle.sequencer.specs.Script.{statements}
 use Rattle.sequencer.specs.Executed.{all_executed}
 use Rattle.sequencer.specs.Frame.{blocks_at}

@@ -2,7 +2,7 @@
 use Rattle.std.proofs.Common.{◌≡◌, ℕ, zero, suc, ◌<◌, List, [], ◌∷◌, length, get_or, set, refl, ap, ◌∙◌, arith}
 use Rattle.block_table.specs.declared.first.types.FirstCode.{FirstCode}
 use Rattle.block_table.specs.declared.first.types.FirstCode.TheVariants.{Flag, Set, Change}
-use Rattle.sequencer.specs.Value.{Value}
+use Rattle.scratch_values.specs.declared.value.Value.{Value}
 use Rattle.sequencer.specs.Script.{Statement, set as set_to, change, code_and}
 use Rattle.sequencer.specs.Slice.{changed_at, executed}
 use Rattle.sequencer.specs.Executed.{all_executed}

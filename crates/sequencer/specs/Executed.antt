@@ -1,6 +1,6 @@
 -- What several statements make of the values, one after another.
 use Rattle.std.specs.Prelude.{List, [], ◌∷◌}
-use Rattle.sequencer.specs.Value.{Value}
+use Rattle.scratch_values.specs.declared.value.Value.{Value}
 use Rattle.sequencer.specs.Script.{Statement}
 use Rattle.sequencer.specs.Slice.{executed}
 

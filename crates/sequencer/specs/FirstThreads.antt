@@ -2,8 +2,8 @@
 use Rattle.std.specs.Prelude.{◌≡◌, ℕ, ◌+◌, ◌<◌, List, [], ◌∷◌, length, Some, if◌then◌else◌}
 use Rattle.block_table.specs.declared.first.types.FirstBlock.{FirstBlock}
 use Rattle.block_table.specs.FirstProject.{Project}
+use Rattle.scratch_values.specs.declared.value.Value.{Value}
 use Rattle.sequencer.specs.declared.first.thread.FirstThread.{FirstThread}
-use Rattle.sequencer.specs.Value.{Value}
 use Rattle.sequencer.specs.World.{Thread}
 use Rattle.sequencer.specs.Script.{statements}
 use Rattle.sequencer.specs.Executed.{all_executed}

@@ -1,21 +1,15 @@
 -- Temporary: how the values of a run of the first form are kept.
-use Rattle.std.specs.Prelude.{◌≡◌, ℕ, List, pos, ◌*ℤ◌, Option, None, Some}
-use Rattle.sequencer.specs.declared.first.number.FirstNumber.{FirstNumber}
-use Rattle.sequencer.specs.declared.first.number.FirstNumber.TheVariants.{Whole, Infinite, NegativeInfinite}
-use Rattle.sequencer.specs.Number.{Number, fixed, infinite, negative_infinite, number_text}
-use Rattle.sequencer.specs.Value.{Value, number, text}
+use Rattle.std.specs.Prelude.{◌≡◌, ℕ, List, Option, None, Some}
+use Rattle.scratch_number.specs.declared.number.Num.{Num}
+use Rattle.scratch_values.specs.declared.value.Value.{Value}
+use Rattle.scratch_values.specs.declared.value.Value.TheVariants.{Number, Text}
+use Rattle.scratch_values.specs.Value.{text_of}
 
--- a whole number as millionths
-abbrev pub number_view : FirstNumber → Number
-number_view (Whole n) = fixed (n *ℤ pos 1000000)
-number_view Infinite = infinite
-number_view NegativeInfinite = negative_infinite
+-- the number, or the text where there is none
+abbrev pub value_view : Option Num → List ℕ → Value
+value_view None chars = Text chars
+value_view (Some n) chars = Number n
 
-abbrev pub value_view : Option FirstNumber → List ℕ → Value
-value_view None chars = text chars
-value_view (Some n) chars = number (number_view n)
-
--- the text beside a number is its text
-abbrev pub HasText : Option FirstNumber → List ℕ → Type 0
-HasText None chars = Unit {0}
-HasText (Some n) chars = chars ≡ number_text (number_view n)
+-- the text that is kept is the value's text
+abbrev pub HasText : Option Num → List ℕ → Type 0
+HasText number chars = chars ≡ text_of (value_view number chars)

@@ -5,8 +5,8 @@ use Rattle.block_table.specs.declared.first.types.FirstCode.{FirstCode}
 use Rattle.block_table.specs.declared.first.types.FirstCode.TheVariants.{Flag, Set, Change}
 use Rattle.block_table.specs.FirstProject.{Project}
 use Rattle.block_table.specs.FirstOrder.{executable_order}
+use Rattle.scratch_values.specs.declared.value.Value.TheVariants.{Text}
 use Rattle.sequencer.specs.declared.budget.Budget.{Budget}
-use Rattle.sequencer.specs.Value.{text}
 use Rattle.sequencer.specs.Script.{statements}
 use Rattle.sequencer.specs.World.{running, Thread, World}
 use Rattle.sequencer.specs.Pass.{Passed, pass}
@@ -33,7 +33,7 @@ frame b w = numbered (passes b.passes (record w { clock = b.clock; redraw = fals
 
 -- the first world: clock 0, no frame, the variables as in the file, no thread
 abbrev pub first_world : Project → World
-first_world p = record { clock = 0; frame = 0; values = map (λ v. text v.value) p.variables; threads = []; redraw = false }
+first_world p = record { clock = 0; frame = 0; values = map (λ v. Text v.value) p.variables; threads = []; redraw = false }
 
 -- the blocks of a target
 abbrev pub blocks_at : Project → ℕ → List FirstBlock

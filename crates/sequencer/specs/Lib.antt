@@ -1,5 +1,3 @@
-pub mod Number
-pub mod Value
 pub mod Script
 pub mod World
 pub mod Slice

@@ -1,7 +1,9 @@
 -- The state of a run: plain lists, with what is left to do in place of each thread's block numbers.
 use Rattle.std.specs.Prelude.{ℕ, ◌*◌, ◌^◌, ◌≤◌, List, Bool, true, false}
+-- the values of variables, and the text of each
+pub use Rattle.scratch_values.specs.declared.value.Value.{Value}
+pub use Rattle.scratch_values.specs.Value.{text_of}
 use Rattle.sequencer.specs.declared.budget.Budget.{Budget}
-use Rattle.sequencer.specs.Value.{Value}
 use Rattle.sequencer.specs.Script.{Statement}
 
 -- how a thread stands (scratch-vm, engine/thread.js); a done thread is in the list until its pass ends

@@ -2,9 +2,9 @@ ghost use Rattle.std.specs.Prelude.{IfOk};
 ghost use Rattle.sequencer.specs.FirstRun.{IsRunOf};
 
 use crate::FirstRun;
-use crate::first::number::FirstNumber;
+use crate::first::value::FirstValue;
 use block_table::{FirstProject, first_form};
-use project_json::read;
+use project_json::{Text, read};
 use std::alloc::Global;
 use std::test::Fail;
 
@@ -79,16 +79,17 @@ fn starts_the_stage_last(rt: HostRuntime) -> Result<(), Fail> {
 #[test]
 fn sums_past_the_largest_are_infinite(rt: HostRuntime) -> Result<(), Fail> {
     let rows = [
-        (5, -7, "-2"),
-        (-3, 3, "0"),
-        (8_999_999_999_999, 1, "9000000000000"),
-        (9_000_000_000_000, 1, "Infinity"),
-        (-8_999_999_999_999, -1, "-9000000000000"),
-        (-9_000_000_000_000, -1, "-Infinity"),
+        ("5", "-7", "-2"),
+        ("-3", "3", "0"),
+        ("8999999999999", "1", "9000000000000"),
+        ("9000000000000", "1", "Infinity"),
+        ("-8999999999999", "-1", "-9000000000000"),
+        ("-9000000000000", "-1", "-Infinity"),
     ];
-    for (number, change, text) in rows {
-        let sum = FirstNumber::Whole(number).plus(change).text(rt.alloc())?;
-        assert_eq!(rt; sum.as_str(), text, "{text}");
+    for (old, change, text) in rows {
+        let value = FirstValue::of_text(rt.alloc(), &Text::from_str(rt.alloc(), old)?)?;
+        let sum = value.changed_by(rt.alloc(), &Text::from_str(rt.alloc(), change)?)?;
+        assert_eq!(rt; sum.as_text().as_str(), text, "{text}");
     }
     Ok(())
 }

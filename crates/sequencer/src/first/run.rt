@@ -3,10 +3,11 @@
 ghost use Rattle.std.specs.Prelude.{◌≡◌, ℕ, ◌+◌, ◌^◌, [], ◌<◌, ◌≤◌, ◌++◌, length, slice_get, Some, option_map, IfOk, OnOk, map, flat_map, reverse};
 ghost use Rattle.block_table.specs.FirstProject.{AreLinked, ActsWithin};
 ghost use Rattle.block_table.specs.FirstOrder.{executable_order};
+ghost use Rattle.scratch_values.specs.declared.value.Value.{Value};
+ghost use Rattle.scratch_values.specs.Value.{text_of};
 ghost use Rattle.sequencer.specs.declared.budget.Budget.{Budget};
 ghost use Rattle.sequencer.specs.Executed.{all_executed};
 ghost use Rattle.sequencer.specs.FirstThreads.{heads_from, heads_of, AreThreadsOf, all_run};
-ghost use Rattle.sequencer.specs.Value.{text, text_of};
 ghost use Rattle.sequencer.specs.Script.{statements, code_and};
 ghost use Rattle.sequencer.specs.Frame.{frame, first_world, flag_line, is_flag_head};
 
@@ -38,7 +39,7 @@ impl Model for FirstRun {
 
 // The values of the variables as the file gives them.
 fn first_values(alloc: Global, variables: &[FirstVariable]) -> Result<Vec<FirstValue>, AllocError>
-    ensures { IfOk result (λ vs. vs.items ≡ map (λ v. text v.value) variables.now) }
+    ensures { IfOk result (λ vs. vs.items ≡ map (λ v. Value.Text v.value) variables.now) }
 {
     let mut values = Vec::new(alloc);
     for variable in variables {

@@ -1,24 +1,26 @@
 //! The value of a variable.
 
-ghost use Rattle.std.specs.Prelude.{◌≡◌, IfOk, pos, ◌*ℤ◌};
-ghost use Rattle.sequencer.specs.Number.{fixed, sum};
-ghost use Rattle.sequencer.specs.Value.{text, number, number_of, text_number, text_of};
+ghost use Rattle.std.specs.Prelude.{◌≡◌, IfOk};
+ghost use Rattle.scratch_number.specs.Arithmetic.{add};
+ghost use Rattle.scratch_values.specs.declared.value.Value.{Value};
+ghost use Rattle.scratch_values.specs.Casts.{number};
+ghost use Rattle.scratch_values.specs.Value.{text_of};
 
-use crate::first::number::FirstNumber;
-use block_table::whole_number;
 use project_json::Text;
+use scratch_number::{Num, NumText, add, of_text, write_text};
+use scratch_values::{Value, to_number};
 use std::alloc::{AllocError, Global};
 use std::marker::Model;
 
 /// The value of a variable: a number with its text, or a text. Contracts see it as the value.
 #[derive(Debug, Drop)]
 pub(crate) struct FirstValue {
-    number: Option<FirstNumber>,
+    number: Option<Num>,
     text: Text,
 }
 
 impl Model for FirstValue {
-    ghost use Rattle.sequencer.specs.Value.{Value as VariableValue};
+    ghost use Rattle.scratch_values.specs.declared.value.Value.{Value as VariableValue};
     ghost use Rattle.sequencer.specs.FirstValue.{value_view, HasText};
 
     ghost Value = { VariableValue };
@@ -28,19 +30,26 @@ impl Model for FirstValue {
     ghost invariant = { λ a. HasText a.number a.text };
 }
 
-// The whole number of a text of at most nine digits, or 0 where it is none.
-fn whole_or_zero(chars: &str) -> i32
-    ensures { fixed (result *ℤ pos 1000000) ≡ text_number chars.now }
+// What a text counts in a sum.
+fn text_number(chars: &str) -> Num
+    ensures { result ≡ number (Value.Text chars.now) }
 {
-    whole_number(chars, 9).unwrap_or(0)
+    to_number(&Value::Number(of_text(chars)))
+}
+
+// The text of a number.
+fn number_text(alloc: Global, number: &Num) -> Result<Text, AllocError>
+    ensures { IfOk result (λ t. t ≡ text_of (Value.Number number.now)) }
+{
+    let mut text = NumText::new();
+    write_text(*number, &mut text);
+    Text::from_str(alloc, text.as_str())
 }
 
 impl FirstValue {
-    ghost use Rattle.sequencer.specs.FirstValue.{number_view};
-
     /// A text as a value.
     pub(crate) fn of_text(alloc: Global, chars: &Text) -> Result<FirstValue, AllocError>
-        ensures { IfOk result (λ v. v ≡ text chars.now) }
+        ensures { IfOk result (λ v. v ≡ Value.Text chars.now) }
     {
         Ok(FirstValue {
             number: None,
@@ -55,22 +64,22 @@ impl FirstValue {
         &self.text
     }
 
-    // The number of the value.
-    fn number(&self) -> FirstNumber
-        ensures { number_view result ≡ number_of self.now }
+    // What the value counts in a sum.
+    fn number(&self) -> Num
+        ensures { result ≡ number self.now }
     {
         match self.number {
-            Some(number) => number,
-            None => FirstNumber::Whole(whole_or_zero(self.text.as_str()) as i64),
+            Some(number) => to_number(&Value::Number(number)),
+            None => text_number(self.text.as_str()),
         }
     }
 
-    /// The sum of the value's number and the number of a text.
+    /// The sum of what the value and a text count.
     pub(crate) fn changed_by(&self, alloc: Global, chars: &Text) -> Result<FirstValue, AllocError>
-        ensures { IfOk result (λ v. v ≡ number (sum (number_of self.now) (text_number chars.now))) }
+        ensures { IfOk result (λ v. v ≡ Value.Number (add (number self.now) (number (Value.Text chars.now)))) }
     {
-        let sum = self.number().plus(whole_or_zero(chars.as_str()));
-        let text = sum.text(alloc)?;
+        let sum = add(self.number(), text_number(chars.as_str()));
+        let text = number_text(alloc, &sum)?;
         Ok(FirstValue {
             number: Some(sum),
             text,
