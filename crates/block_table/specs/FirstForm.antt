@@ -1,5 +1,5 @@
--- Temporary: the first form of a project, as a function on its finished document. It gives what the document tells
--- where the document is of the form, and nothing where it is not. docs/profile.md has the rules in words; the members
+-- The first form of a project, as a function on its finished document. It gives what the document tells
+-- where the document is of the form, and nothing where it is not. docs/formats.md has the rules in words; the members
 -- and their defaults are those of the Scratch 3 project file format.
 use Rattle.std.specs.Prelude.{ℕ, ◌+◌, List, [], ◌∷◌, length, Bool, true, false, ◌&&◌, ◌||◌, ◌==◌, nat_lt, nat_le, ℤ, pos, negsuc, neg_ℤ, int_le, Option, None, Some, is_some, slice_get, position, map, flat_map, sum_by, count_by, bytes_eq, codes, if◌then◌else◌}
 use Rattle.std.specs.Fmt.{signed_decimal}

@@ -1,4 +1,4 @@
--- Temporary: what a project of the first form holds (Scratch 3 project file format), and what is true of each.
+-- What a project of the first form holds (Scratch 3 project file format), and what is true of each.
 use Rattle.std.specs.Prelude.{◌≡◌, ℕ, ◌<◌, ◌≤◌, ◌^◌, List, length, slice_get, Some, sum_by, count_by}
 use Rattle.block_table.specs.declared.first.types.FirstTarget.{FirstTarget}
 use Rattle.block_table.specs.declared.first.types.FirstBlock.{FirstBlock}

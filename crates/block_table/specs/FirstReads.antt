@@ -1,4 +1,4 @@
--- Temporary: what a reader of the first form answers, beside what its document tells.
+-- What a reader of the first form answers, beside what its document tells.
 use Rattle.std.specs.Prelude.{◌≡◌, Option, None, Some, Result, Ok, Err}
 use Rattle.block_table.specs.declared.first.refusal.FirstRefusal.{FirstRefusal}
 use Rattle.block_table.specs.declared.first.refusal.FirstRefusal.TheVariants.{Shape, NoMemory}

@@ -1,4 +1,4 @@
--- Temporary: what the code reads of the first form, as the definitions have it.
+-- What the code reads of the first form, as the definitions have it.
 use Rattle.std.specs.Prelude.{ℕ, ℤ, List, Option, map}
 use Rattle.std.specs.BTreeMap.{get_by}
 use Rattle.std.specs.Ordering.{nat_cmp}

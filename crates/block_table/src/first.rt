@@ -1,7 +1,7 @@
-//! Temporary: the first form of a project, until the whole project reader replaces it.
+//! The first form of a project.
 //!
 //! A project of this form has green flag scripts of set and change blocks, whole numbers, and
-//! variables of the stage alone. docs/profile.md lists its seven rules.
+//! variables of the stage alone. docs/formats.md lists its seven rules.
 
 mod blocks;
 mod members;
@@ -15,7 +15,6 @@ mod target;
 mod types;
 mod variables;
 
-pub use numbers::whole_number;
 pub use project::first_form;
 pub use refusal::FirstRefusal;
 pub use types::{

@@ -8,7 +8,6 @@ mod texts;
 pub use first::{
     FirstBlock, FirstBlocks, FirstCode, FirstMonitor, FirstMonitors, FirstOrder, FirstProject,
     FirstRefusal, FirstTarget, FirstTargets, FirstVariable, FirstVariables, first_form,
-    whole_number,
 };
 pub use style::Style;
 pub use texts::Texts;

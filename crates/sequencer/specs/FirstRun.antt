@@ -1,4 +1,4 @@
--- Temporary: a run of a project of the first form, as it is kept: block numbers in place of statements.
+-- A run of a project of the first form, as it is kept: block numbers in place of statements.
 use Rattle.std.specs.Prelude.{◌≡◌, ℕ, ◌≤◌, List, length, map, false}
 use Rattle.block_table.specs.FirstProject.{Project, IsWell}
 use Rattle.scratch_values.specs.declared.value.Value.{Value}

@@ -1,4 +1,4 @@
--- Temporary: threads as a run of the first form keeps them, with a block number in place of statements.
+-- Threads as a run of the first form keeps them, with a block number in place of statements.
 use Rattle.std.specs.Prelude.{◌≡◌, ℕ, ◌+◌, ◌<◌, List, [], ◌∷◌, length, Some, if◌then◌else◌}
 use Rattle.block_table.specs.declared.first.types.FirstBlock.{FirstBlock}
 use Rattle.block_table.specs.FirstProject.{Project}

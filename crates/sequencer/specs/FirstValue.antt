@@ -1,4 +1,4 @@
--- Temporary: how the values of a run of the first form are kept.
+-- How the values of a run of the first form are kept.
 use Rattle.std.specs.Prelude.{◌≡◌, ℕ, List, Option, None, Some}
 use Rattle.scratch_number.specs.declared.number.Num.{Num}
 use Rattle.scratch_values.specs.declared.value.Value.{Value}

@@ -1,4 +1,4 @@
-//! Temporary: runs of projects of the first form, until runs of whole projects replace them.
+//! Runs of projects of the first form.
 
 mod run;
 mod thread;

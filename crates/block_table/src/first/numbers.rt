@@ -47,9 +47,9 @@ fn is_whole(bytes: &[u8], most: usize) -> bool
     }
 }
 
-/// The whole number that a text writes, an optional minus sign and digits, at most `most` of them;
-/// `None` where it writes none.
-pub fn whole_number(text: &str, most: usize) -> Option<i32>
+// The whole number that a text writes, an optional minus sign and digits, at most `most` of them;
+// `None` where it writes none.
+fn whole_number(text: &str, most: usize) -> Option<i32>
     requires { most ≤ 9 }
     ensures { result ≡ whole_number most text.now }
 {
