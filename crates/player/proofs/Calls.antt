@@ -4,15 +4,16 @@ use Rattle.std.specs.Prelude.{IfSome, IsSomeAnd}
 use Rattle.std.specs.FinMap.{get}
 use Rattle.std.proofs.lemmas.Bool.Decides.{nat_tests}
 use Rattle.sv_channels.specs.Files.{Files}
-use Rattle.project_json.proofs.Complete.{IsJson-one_tree}
+use Rattle.sv_channels.proofs.Gains.{Gained-nil}
+use Rattle.project_json.proofs.Results.{json_one_tree, text_no_fault, same_fault}
 use Rattle.project_json.specs.declared.refusal.JsonRefusal.TheVariants as json_refusal
 use Rattle.block_table.specs.FirstProject.{Project}
 use Rattle.block_table.specs.FirstForm.{project_of}
 use Rattle.sequencer.specs.Frame.{first_world}
 use Rattle.player.specs.Words.{Form}
 use Rattle.player.specs.Lines.{lines_of}
-use Rattle.player.specs.Output.{Ending, too_large, Outcome, ends, played}
-use Rattle.player.specs.Promise.{Loading, not_json, not_first_form, loaded, Loads, LoadsFile, fetched, accepted, outcome_of, AnswerCause, Wrote}
+use Rattle.player.specs.Output.{Ending, no_document, too_large, Outcome, ends, played}
+use Rattle.player.specs.Promise.{Loading, not_json, not_first_form, loaded, Loads, LoadsFile, fetched, accepted, outcome_of, FaultCause, AnswerCause, Wrote}
 use Rattle.player.specs.Stages.{Fetched, Loaded, PlayedTo}
 use Rattle.player.specs.declared.status.Which.{Which}
 use Rattle.player.specs.declared.status.Which.TheVariants as which
@@ -37,19 +38,19 @@ fetched_large file limit (Some bytes) next h =
 -- bytes tell one project
 one_project : (bytes : List ℕ) (p q : Project) → Loads bytes (loaded p) → Loads bytes (loaded q) → q ≡ p
 one_project bytes p q a b =
-    let same = IsJson-one_tree 256 bytes b.0 a.0 b.1 a.1 in
+    let same = json_one_tree 256 256 bytes b.0 a.0 b.1.1 a.1.1 in
     let both : Some q ≡ Some p = sym b.2 ∙ ap project_of same ∙ a.2 in
     cc
 
 none_loaded : (bytes : List ℕ) (p : Project) → Loads bytes (loaded p) → Loads bytes not_first_form → ⊥
 none_loaded bytes p a b =
-    let same = IsJson-one_tree 256 bytes b.0 a.0 b.1 a.1 in
+    let same = json_one_tree 256 256 bytes b.0 a.0 b.1.1 a.1.1 in
     let both : None ≡ Some p = sym b.2 ∙ ap project_of same ∙ a.2 in
     cc
 
 -- what a project that was loaded goes on with
 accepted_ok : (bytes : List ℕ) (p : Project) (loading : Loading) (next : Project → Outcome) → Loads bytes (loaded p) → Loads bytes loading → accepted loading next ≡ next p
-accepted_ok bytes p not_json next a b = absurd (b a.0 a.1)
+accepted_ok bytes p (not_json r) next a b = absurd (text_no_fault 256 bytes a.0 r a.1 b)
 accepted_ok bytes p not_first_form next a b = absurd (none_loaded bytes p a b)
 accepted_ok bytes p (loaded q) next a b = ap next (one_project bytes p q a b)
 
@@ -70,11 +71,10 @@ outcome_loaded files form bytes p loading e h a l =
 -- a refused project
 
 refused : (bytes : List ℕ) (status : Status) (loading : Loading) (next : Project → Outcome) → Loaded bytes (Err status) → Loads bytes loading → AnswerCause (accepted loading next).ending status
-refused bytes (BadProject (refusal.Json (json_refusal.Syntax at))) not_json next a b = refl
-refused bytes (BadProject (refusal.Json (json_refusal.Syntax at))) not_first_form next a b = absurd (a b.0 b.1)
-refused bytes (BadProject (refusal.Json (json_refusal.Syntax at))) (loaded p) next a b = absurd (a b.0 b.1)
-refused bytes (BadProject (refusal.Json json_refusal.NoMemory)) loading next a b = absurd a
-refused bytes (BadProject (refusal.Shape path)) not_json next a b = absurd (b a.1.0 a.1.1)
+refused bytes (BadProject (refusal.Json r)) (not_json s) next a b = ap no_document (same_fault 256 bytes s r b a)
+refused bytes (BadProject (refusal.Json r)) not_first_form next a b = absurd (text_no_fault 256 bytes b.0 r b.1 a)
+refused bytes (BadProject (refusal.Json r)) (loaded p) next a b = absurd (text_no_fault 256 bytes b.0 r b.1 a)
+refused bytes (BadProject (refusal.Shape path)) (not_json s) next a b = absurd (text_no_fault 256 bytes a.1.0 s a.1.1 b)
 refused bytes (BadProject (refusal.Shape path)) not_first_form next a b = (a.0, refl)
 refused bytes (BadProject (refusal.Shape path)) (loaded p) next a b = absurd (none_loaded bytes p b a.1)
 refused bytes NoMemory loading next a b = tt
@@ -84,6 +84,21 @@ refused bytes ReadFault loading next a b = absurd a
 refused bytes WriteFault loading next a b = absurd a
 refused bytes (BadScript r) loading next a b = absurd a
 refused bytes (TooLarge file limit) loading next a b = absurd a
+
+-- a refused project is no fault, and want of memory stands in no other status
+pub load_fault : (bytes : List ℕ) (fetch_failed write_failed : Type 0) (status : Status) → Loaded bytes (Err status) → FaultCause fetch_failed write_failed status
+load_fault bytes fetch_failed write_failed (BadProject (refusal.Json (json_refusal.NotUtf8 at))) a = tt
+load_fault bytes fetch_failed write_failed (BadProject (refusal.Json (json_refusal.Syntax at))) a = tt
+load_fault bytes fetch_failed write_failed (BadProject (refusal.Json (json_refusal.TooDeep at))) a = tt
+load_fault bytes fetch_failed write_failed (BadProject (refusal.Json json_refusal.NoMemory)) a = a
+load_fault bytes fetch_failed write_failed (BadProject (refusal.Shape path)) a = tt
+load_fault bytes fetch_failed write_failed NoMemory a = tt
+load_fault bytes fetch_failed write_failed Done a = absurd a
+load_fault bytes fetch_failed write_failed Usage a = absurd a
+load_fault bytes fetch_failed write_failed ReadFault a = absurd a
+load_fault bytes fetch_failed write_failed WriteFault a = absurd a
+load_fault bytes fetch_failed write_failed (BadScript r) a = absurd a
+load_fault bytes fetch_failed write_failed (TooLarge file limit) a = absurd a
 
 -- The clauses, by what is told of the files.
 
@@ -156,3 +171,21 @@ pub wrote_played : (held : Option Files) (form : Form) (bytes script : List ℕ)
 wrote_played None form bytes script p old new status h e a k f w = tt
 wrote_played (Some files) form bytes script p old new status h e a k f w = λ loading l.
     subst (λ (o : Outcome). Wrote old new o.frames status) (sym (outcome_played files form bytes script p loading e h a f k l)) w
+
+-- a script that is not fetched leaves nothing written
+fetch_wrote : (A : Type 0) (items : A → List ℕ) (held : Option Files) (name : List ℕ) (file : Which) (limit : ℕ) (failed : Type 0) (status : Status) (old : Option (List ℕ)) (frames : List (List ℕ))
+    → Fetched held name file limit failed items (Err status) → Wrote old old frames status
+fetch_wrote A items held name file limit failed ReadFault old frames h = Gained-nil old
+fetch_wrote A items held name file limit failed (TooLarge f l) old frames h = Gained-nil old
+fetch_wrote A items held name file limit failed NoMemory old frames h = (0, Gained-nil old)
+fetch_wrote A items held name file limit failed Done old frames h = absurd h
+fetch_wrote A items held name file limit failed Usage old frames h = absurd h
+fetch_wrote A items held name file limit failed WriteFault old frames h = absurd h
+fetch_wrote A items held name file limit failed (BadProject r) old frames h = absurd h
+fetch_wrote A items held name file limit failed (BadScript r) old frames h = absurd h
+
+pub wrote_unfetched : (A : Type 0) (items : A → List ℕ) (told held : Option Files) (form : Form) (failed : Type 0) (status : Status) (old : Option (List ℕ))
+    → Fetched held form.script which.Script 16777216 failed items (Err status)
+    → IfSome told (λ files. (loading : Loading) → LoadsFile (get files form.project) loading → Wrote old old (outcome_of files form loading).frames status)
+wrote_unfetched A items None held form failed status old h = tt
+wrote_unfetched A items (Some files) held form failed status old h = λ loading l. fetch_wrote A items held form.script which.Script 16777216 failed status old (outcome_of files form loading).frames h

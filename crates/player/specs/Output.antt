@@ -1,5 +1,6 @@
 -- The output of a run: what the lines of a script write, one after another, and how it ends.
 use Rattle.std.specs.Prelude.{ℕ, ◌+◌, List, [], ◌∷◌, ◌++◌, Option, None, Some}
+use Rattle.project_json.specs.declared.refusal.JsonRefusal.{JsonRefusal}
 use Rattle.block_table.specs.FirstProject.{Project}
 use Rattle.sequencer.specs.World.{World}
 use Rattle.sequencer.specs.Frame.{frame, flag_line}
@@ -13,7 +14,7 @@ use Rattle.player.specs.declared.status.Which.{Which}
 pub data Ending : Type 0 where
   whole : Ending
   bad_line : ℕ → Ending
-  no_document : Ending
+  no_document : JsonRefusal → Ending
   no_project : Ending
   too_large : Which → ℕ → Ending
   missing : Which → Ending

@@ -8,7 +8,9 @@ use Rattle.sv_channels.specs.Counts.{Rose}
 use Rattle.sv_channels.specs.Files.{Files}
 use Rattle.sv_channels.specs.Sink.{Gained}
 use Rattle.project_json.specs.Tree.{Tree}
-use Rattle.project_json.specs.Grammar.{IsJson}
+use Rattle.project_json.specs.Text.{IsText}
+use Rattle.project_json.specs.Refusal.{IsFault}
+use Rattle.project_json.specs.declared.refusal.JsonRefusal.{JsonRefusal}
 use Rattle.project_json.specs.declared.refusal.JsonRefusal.TheVariants as json_refusal
 use Rattle.block_table.specs.FirstProject.{Project}
 use Rattle.block_table.specs.FirstForm.{project_of}
@@ -26,16 +28,16 @@ use Rattle.player.specs.declared.status.Status.TheVariants.{Done, Usage, ReadFau
 -- 1. What a project file stands for
 
 pub data Loading : Type 0 where
-  not_json : Loading
+  not_json : JsonRefusal → Loading
   not_first_form : Loading
   loaded : Project → Loading
 
--- The bytes are no JSON text nested at most 256 deep (RFC 8259), or one of a document that is not of the first form,
--- or one of a document that tells the project.
+-- The bytes are no JSON text nested at most 256 deep (RFC 8259) and have this fault, or are one of a document that is
+-- not of the first form, or one of a document that tells the project.
 abbrev pub Loads : List ℕ → Loading → Type 0
-Loads bytes not_json = (t : Tree) → IsJson 256 bytes t → ⊥
-Loads bytes not_first_form = (t : Tree) × IsJson 256 bytes t × (project_of t ≡ None)
-Loads bytes (loaded p) = (t : Tree) × IsJson 256 bytes t × (project_of t ≡ Some p)
+Loads bytes (not_json refusal) = IsFault 256 bytes refusal
+Loads bytes not_first_form = (t : Tree) × IsText 256 bytes t × (project_of t ≡ None)
+Loads bytes (loaded p) = (t : Tree) × IsText 256 bytes t × (project_of t ≡ Some p)
 
 -- the same of a file that may not be held
 abbrev pub LoadsFile : Option (List ℕ) → Loading → Type 0
@@ -50,7 +52,7 @@ fetched file limit None next = ends (missing file)
 fetched file limit (Some bytes) next = if nat_lt limit (length bytes) then ends (too_large file limit) else next bytes
 
 abbrev pub accepted : Loading → (Project → Outcome) → Outcome
-accepted not_json next = ends no_document
+accepted (not_json refusal) next = ends (no_document refusal)
 accepted not_first_form next = ends no_project
 accepted (loaded p) next = next p
 
@@ -71,8 +73,7 @@ FetchFailed before after form = Rose (before form.project) (after form.project) 
 -- the status tells the ending
 abbrev pub Tells : Status → Ending → Type 0
 Tells Done ending = ending ≡ whole
-Tells (BadProject (refusal.Json (json_refusal.Syntax at))) ending = ending ≡ no_document
-Tells (BadProject (refusal.Json json_refusal.NoMemory)) ending = ⊥
+Tells (BadProject (refusal.Json r)) ending = ending ≡ no_document r
 Tells (BadProject (refusal.Shape path)) ending = (path ≡ []) × (ending ≡ no_project)
 Tells (BadScript (line_refusal.UnknownLine line)) ending = ending ≡ bad_line line
 Tells (TooLarge file limit) ending = ending ≡ too_large file limit
@@ -81,13 +82,17 @@ Tells ReadFault ending = ⊥
 Tells WriteFault ending = ⊥
 Tells NoMemory ending = ⊥
 
--- a fault only where its count rose
+-- a fault only where its count rose; want of memory stands in no other status
 abbrev pub FaultCause : Type 0 → Type 0 → Status → Type 0
 FaultCause fetch_failed write_failed ReadFault = fetch_failed
 FaultCause fetch_failed write_failed WriteFault = write_failed
 FaultCause fetch_failed write_failed Done = Unit {0}
 FaultCause fetch_failed write_failed Usage = Unit {0}
-FaultCause fetch_failed write_failed (BadProject r) = Unit {0}
+FaultCause fetch_failed write_failed (BadProject (refusal.Json json_refusal.NoMemory)) = ⊥
+FaultCause fetch_failed write_failed (BadProject (refusal.Json (json_refusal.NotUtf8 at))) = Unit {0}
+FaultCause fetch_failed write_failed (BadProject (refusal.Json (json_refusal.Syntax at))) = Unit {0}
+FaultCause fetch_failed write_failed (BadProject (refusal.Json (json_refusal.TooDeep at))) = Unit {0}
+FaultCause fetch_failed write_failed (BadProject (refusal.Shape path)) = Unit {0}
 FaultCause fetch_failed write_failed (BadScript r) = Unit {0}
 FaultCause fetch_failed write_failed (TooLarge file limit) = Unit {0}
 FaultCause fetch_failed write_failed NoMemory = Unit {0}

@@ -3,7 +3,6 @@ use Rattle.std.specs.Prelude.{◌≡◌, ℕ, ◌<◌, ◌≤◌, List, [], leng
 use Rattle.std.specs.FinMap.{get}
 use Rattle.sv_channels.specs.Files.{Files}
 use Rattle.sv_channels.specs.Sink.{Gained}
-use Rattle.project_json.specs.declared.refusal.JsonRefusal.TheVariants as json_refusal
 use Rattle.block_table.specs.FirstProject.{Project}
 use Rattle.player.specs.Output.{Ending, whole, bad_line}
 use Rattle.player.specs.Promise.{Loads, not_json, not_first_form, loaded, flat}
@@ -28,8 +27,7 @@ Fetched held name which limit failed items (Err (BadScript r)) = ⊥
 -- what a load answers
 abbrev pub Loaded : List ℕ → Result Project Status → Type 0
 Loaded bytes (Ok p) = Loads bytes (loaded p)
-Loaded bytes (Err (BadProject (refusal.Json (json_refusal.Syntax at)))) = Loads bytes not_json
-Loaded bytes (Err (BadProject (refusal.Json json_refusal.NoMemory))) = ⊥
+Loaded bytes (Err (BadProject (refusal.Json r))) = Loads bytes (not_json r)
 Loaded bytes (Err (BadProject (refusal.Shape path))) = (path ≡ []) × Loads bytes not_first_form
 Loaded bytes (Err NoMemory) = Unit {0}
 Loaded bytes (Err Done) = ⊥

@@ -16,7 +16,8 @@ pub enum Which {
 /// Why a project is refused. The numbers P1 and P2 are those of docs/refusals.md.
 #[derive(Debug, Drop)]
 pub enum Refusal {
-    /// P1: the bytes are no JSON text. `NoMemory` never stands here.
+    /// P1: the bytes are no JSON text nested at most 256 deep; their fault and its place in bytes.
+    /// `NoMemory` never stands here.
     Json(JsonRefusal),
     /// P2: a member that is read has not its shape. The path is empty where the whole document is
     /// meant.
@@ -61,9 +62,13 @@ pub fn status_text(alloc: Global, status: &Status) -> Result<String, AllocError>
         Status::Usage => String::from_str(alloc, "Usage"),
         Status::ReadFault => String::from_str(alloc, "ReadFault"),
         Status::WriteFault => String::from_str(alloc, "WriteFault"),
-        Status::BadProject(Refusal::Json(JsonRefusal::Syntax { .. })) => {
-            String::from_str(alloc, "BadProject P1")
-        }
+        Status::BadProject(
+            Refusal::Json(
+                JsonRefusal::NotUtf8 { .. }
+                | JsonRefusal::Syntax { .. }
+                | JsonRefusal::TooDeep { .. },
+            ),
+        ) => String::from_str(alloc, "BadProject P1"),
         Status::BadProject(Refusal::Shape { .. }) => String::from_str(alloc, "BadProject P2"),
         Status::BadScript(LineRefusal::UnknownLine { line }) => {
             format!(in alloc; "BadScript 2 {line}")
@@ -84,8 +89,14 @@ pub fn exit_number(status: &Status) -> u8
         Status::Usage => 1,
         Status::ReadFault => 2,
         Status::WriteFault => 3,
-        Status::BadProject(Refusal::Json(JsonRefusal::Syntax { .. })) => 4,
-        Status::BadProject(Refusal::Shape { .. }) => 4,
+        Status::BadProject(
+            Refusal::Json(
+                JsonRefusal::NotUtf8 { .. }
+                | JsonRefusal::Syntax { .. }
+                | JsonRefusal::TooDeep { .. },
+            )
+            | Refusal::Shape { .. },
+        ) => 4,
         Status::BadScript(_) => 5,
         Status::TooLarge { .. } => 8,
         Status::NoMemory | Status::BadProject(Refusal::Json(JsonRefusal::NoMemory)) => 9,

@@ -148,16 +148,32 @@ fn files_that_are_not_fetched(rt: HostRuntime) -> Result<(), Fail> {
     Ok(())
 }
 
+// How a project is refused, where its bytes are no JSON text.
+fn json_refusal(status: &Status) -> Option<JsonRefusal> {
+    match status {
+        Status::BadProject(Refusal::Json(refusal)) => Some(*refusal),
+        _ => None,
+    }
+}
+
 #[test]
 fn projects_that_are_refused(rt: HostRuntime) -> Result<(), Fail> {
     let alloc = rt.alloc();
-    let (status, _) = played(alloc, b"", "")?;
-    assert!(rt;
-        matches!(
-            status,
-            Status::BadProject(Refusal::Json(JsonRefusal::Syntax { .. }))
-        )
-    );
+    let deep = vec![in alloc; b'['; 257]?;
+    let bytes: [&[u8]; 4] = [b"", b"[1,]", b"\"a\xFF\"", deep.as_slice()];
+    let refusals = [
+        JsonRefusal::Syntax { at: 0 },
+        JsonRefusal::Syntax { at: 3 },
+        JsonRefusal::NotUtf8 { at: 2 },
+        JsonRefusal::TooDeep { at: 256 },
+    ];
+    for i in 0..4 {
+        let (status, out) = played(alloc, bytes[i], "")?;
+        assert_eq!(rt; json_refusal(&status), Some(refusals[i]));
+        assert_eq!(rt; status_text(alloc, &status)?.as_str(), "BadProject P1");
+        assert_eq!(rt; exit_number(&status), 4);
+        assert_eq!(rt; out.written().len(), 0);
+    }
     let (status, _) = played(alloc, b"{}", "")?;
     assert!(rt; matches!(status, Status::BadProject(Refusal::Shape { .. })));
     Ok(())

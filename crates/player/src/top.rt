@@ -1,9 +1,10 @@
 //! The top call.
 
-ghost use Rattle.std.specs.Prelude.{◌≡◌, ◌≢◌, ◌⊎◌, ◌↔◌, ℕ, ◌+◌, ◌^◌, ◌*◌, ◌<◌, ◌≤◌, ◌++◌, [], length, map, string_bytes, Some, None, OnOk, IfOk, IfSome, List};
+ghost use Rattle.std.specs.Prelude.{◌≡◌, ◌≢◌, ◌⊎◌, ◌↔◌, ℕ, ◌+◌, ◌^◌, ◌*◌, ◌<◌, ◌≤◌, ◌++◌, [], length, map, string_bytes, Some, None, OnOk, IfOk, IfSome, List, Err};
 ghost use Rattle.std.specs.FinMap.{get};
 ghost use Rattle.sv_channels.specs.Counts.{Rose, NoneFell};
 ghost use Rattle.sv_channels.specs.Sink.{Gained};
+ghost use Rattle.project_json.specs.Refusal.{IsCause};
 ghost use Rattle.sequencer.specs.Frame.{first_world};
 ghost use Rattle.sequencer.specs.FirstRun.{world_of, IsRunOf};
 ghost use Rattle.player.specs.Words.{form_of, Form as FormOf};
@@ -48,6 +49,18 @@ fn fetch<H: Shelf>(
     }
 }
 
+// How a call ends where the bytes of a project are refused.
+fn unread(refusal: JsonRefusal) -> Status
+    ensures { (bytes : List ℕ) → IsCause 256 bytes refusal → Loaded bytes (Err result) }
+{
+    match refusal {
+        JsonRefusal::NoMemory => Status::NoMemory,
+        JsonRefusal::NotUtf8 { .. } | JsonRefusal::Syntax { .. } | JsonRefusal::TooDeep { .. } => {
+            Status::BadProject(Refusal::Json(refusal))
+        }
+    }
+}
+
 // The project that the bytes of a file tell.
 fn load(alloc: Global, bytes: &[u8]) -> Result<FirstProject, Status>
     requires { length bytes.now < 2 ^ 32 }
@@ -55,10 +68,7 @@ fn load(alloc: Global, bytes: &[u8]) -> Result<FirstProject, Status>
 {
     let document = match read(alloc, bytes) {
         Ok(document) => document,
-        Err(JsonRefusal::Syntax { at }) => {
-            return Err(Status::BadProject(Refusal::Json(JsonRefusal::Syntax { at })));
-        }
-        Err(JsonRefusal::NoMemory) => return Err(Status::NoMemory),
+        Err(refusal) => return Err(unread(refusal)),
     };
     match first_form(alloc, &document) {
         Ok(project) => Ok(project),

@@ -1,7 +1,7 @@
 -- Lists of items and members, a step further, and the whole text.
 use Rattle.std.proofs.Common.{◌≡◌, ℕ, zero, suc, ◌-◌, ◌<◌, true, false, List, [], ◌∷◌, ◌++◌, length, Ok, Err, refl, sym, ap, ◌∙◌, arith, append_assoc}
 use Rattle.project_json.specs.Tree.{Tree}
-use Rattle.project_json.specs.Reading.{Fault, syntax, Fails, text_of, end_of, Read, items_at, items_then, item_at, member_at, members_at, members_then, with_items, value_at, value_with, list_at, object_at, list_below, object_below, skip, ◌>>=◌}
+use Rattle.project_json.specs.Reading.{Fault, syntax, too_deep, Fails, text_of, end_of, Read, items_at, items_then, item_at, member_at, members_at, members_then, with_items, value_at, value_with, list_at, object_at, list_below, object_below, skip, ◌>>=◌}
 use Rattle.project_json.specs.Grammar.{put}
 use Rattle.project_json.specs.declared.stop.Stop.{Stop}
 use Rattle.project_json.specs.declared.stop.Stop.TheVariants as stop
@@ -75,16 +75,19 @@ pub ruleset members_rules = (members_go_on, members_end, members_fail, members_o
 pub items_stop : (e : Stop) (value : List ℕ → Read Tree) (front : List Tree) (n k : ℕ) (bs : List ℕ) (whole : Read (List Tree)) → k ≡ suc n → Fails e (item_at value bs) → with_items front (items_at value k bs) ≡ whole → Fails e whole
 items_stop stop.NoMemory value front n k bs whole e h w = tt
 items_stop (stop.Syntax left) value front n k bs whole e h w = sym w ∙ items_fail value front n k bs (syntax left) e h
+items_stop (stop.TooDeep left) value front n k bs whole e h w = sym w ∙ items_fail value front n k bs (too_deep left) e h
 
 -- a fault of a member is the fault of the object
 pub members_stop : (e : Stop) (value : List ℕ → Read Tree) (before : List (List ℕ × Tree)) (n k : ℕ) (bs : List ℕ) (whole : Read (List (List ℕ × Tree))) → k ≡ suc n → Fails e (member_at value bs) → members_at value k before bs ≡ whole → Fails e whole
 members_stop stop.NoMemory value before n k bs whole e h w = tt
 members_stop (stop.Syntax left) value before n k bs whole e h w = sym w ∙ members_fail value before n k bs (syntax left) e h
+members_stop (stop.TooDeep left) value before n k bs whole e h w = sym w ∙ members_fail value before n k bs (too_deep left) e h
 
 -- a fault of the value is the fault of the text
 pub text_stop : (e : Stop) (n : ℕ) (bs : List ℕ) → Fails e (value_at n (skip bs)) → Fails e (text_of n bs)
 text_stop stop.NoMemory n bs h = tt
 text_stop (stop.Syntax left) n bs h = ap (λ r. r >>= (λ x. end_of x.0 (skip x.1))) h
+text_stop (stop.TooDeep left) n bs h = ap (λ r. r >>= (λ x. end_of x.0 (skip x.1))) h
 
 pub text_goes_on : (n : ℕ) (bs : List ℕ) (t : Tree) (rest : List ℕ) → value_at n (skip bs) ≡ Ok (t, rest) → text_of n bs ≡ end_of t (skip rest)
 text_goes_on n bs t rest h = ap (λ r. r >>= (λ x. end_of x.0 (skip x.1))) h

@@ -1,14 +1,16 @@
--- Setting a member by the place of its name.
-use Rattle.std.proofs.Common.{◌≡◌, ℕ, zero, suc, ◌<◌, ◌⊎◌, Bool, true, false, cond, List, [], ◌∷◌, ◌++◌, length, set, get_or, map, Option, None, Some, String, refl, sym, ap, ◌∙◌, subst, inl, inr, ⊎_elim, arith}
+-- Setting a member by the place of its name, and finding it.
+use Rattle.std.proofs.Common.{◌≡◌, ◌≢◌, ℕ, zero, suc, ◌<◌, ◌⊎◌, Bool, true, false, cond, List, [], ◌∷◌, ◌++◌, length, set, get_or, map, Option, None, Some, String, refl, sym, ap, ◌∙◌, subst, inl, inr, ⊎_elim, arith}
 use Rattle.std.specs.Str.{bytes_eq}
 use Rattle.std.specs.Option.{option_map}
 use Rattle.std.proofs.lemmas.Slice.Eq.{bytes_eq-Decides}
+use Rattle.std.proofs.lemmas.Bool.{false_from_ne_true}
 use Rattle.std.specs.BTreeMap.{BTreeMap, get_by_text}
 use Rattle.std.proofs.lemmas.List.{map-set, get_or-map, map_push}
 use Rattle.project_json.specs.Tree.{Tree}
 use Rattle.project_json.specs.View.{field}
 use Rattle.project_json.specs.declared.json.Member.{Member}
 use Rattle.project_json.specs.Grammar.{put}
+use Rattle.project_json.specs.Parts.{value_named}
 use Rattle.project_json.specs.Places.{place_of}
 
 absent : (b : Bool) (o : Option ℕ) → cond b (Some 0) (option_map suc o) ≡ None → (b ≡ false) × (o ≡ None)
@@ -70,3 +72,23 @@ map-set_value ms i m new t within is e = map-set field ms i new ∙ ap (set (map
 -- the fields of members and one more
 pub map-push_member : (ms : List Member) (new : Member) (m : List ℕ × Tree) → field new ≡ m → map field (ms ++ new ∷ []) ≡ map field ms ++ m ∷ []
 map-push_member ms new m e = map_push field ms new ∙ ap (λ k. map field ms ++ k ∷ []) e
+
+-- the value that is put is found
+pub put-found : (name : List ℕ) (t : Tree) (ms : List (List ℕ × Tree)) → value_named name (put name t ms) ≡ Some t
+put-found name t [] = ap (λ b. cond b (Some t) None) ((bytes_eq-Decides name name).1 refl)
+put-found name t (m ∷ ms) =
+    elim (bytes_eq m.0 name) as (λ b. bytes_eq m.0 name ≡ b → value_named name (cond b ((m.0, t) ∷ ms) (m ∷ put name t ms)) ≡ Some t) [
+      | true ↦ λ e. ap (λ b. cond b (Some t) (value_named name ms)) e
+      | false ↦ λ e. ap (λ b. cond b (Some m.1) (value_named name (put name t ms))) e ∙ put-found name t ms
+    ] refl
+
+-- and all other names keep theirs
+pub put-others : (name other : List ℕ) (t : Tree) (ms : List (List ℕ × Tree)) → other ≢ name → value_named other (put name t ms) ≡ value_named other ms
+put-others name other t [] ne = ap (λ b. cond b (Some t) None) (false_from_ne_true _ (λ e. ne (sym ((bytes_eq-Decides name other).0 e))))
+put-others name other t (m ∷ ms) ne =
+    elim (bytes_eq m.0 name) as (λ b. bytes_eq m.0 name ≡ b → value_named other (cond b ((m.0, t) ∷ ms) (m ∷ put name t ms)) ≡ value_named other (m ∷ ms)) [
+      | true ↦ λ e.
+          let no_other : bytes_eq m.0 other ≡ false = false_from_ne_true _ (λ f. ne (sym ((bytes_eq-Decides m.0 other).0 f) ∙ (bytes_eq-Decides m.0 name).0 e)) in
+          ap (λ b. cond b (Some t) (value_named other ms)) no_other ∙ sym (ap (λ b. cond b (Some m.1) (value_named other ms)) no_other)
+      | false ↦ λ e. ap (λ o. cond (bytes_eq m.0 other) (Some m.1) o) (put-others name other t ms ne)
+    ] refl

@@ -2,7 +2,14 @@ pub mod Tree
 pub mod View
 pub mod Parts
 pub mod Size
+pub mod Bytes
+pub mod Numbers
+pub mod Strings
 pub mod Grammar
+pub mod Text
 pub mod Refusal
+pub mod Told
 pub mod Reading
+pub mod Joining
+pub mod PieceView
 pub mod Places

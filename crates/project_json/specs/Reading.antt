@@ -1,13 +1,22 @@
 -- How the reader goes, as functions on lists: a part and the bytes after it, or the first fault and how many bytes are left there.
 -- Private functions alone cite these. What `read` promises is said by the grammar.
-use Rattle.std.specs.Prelude.{◌≡◌, ℕ, zero, suc, List, [], ◌∷◌, ◌++◌, length, Bool, true, false, ◌==◌, if◌then◌else◌, Result, Ok, Err, codes}
+use Rattle.std.specs.Prelude.{◌≡◌, ℕ, zero, suc, List, [], ◌∷◌, ◌++◌, length, Bool, true, false, ◌==◌, if◌then◌else◌, Option, None, Some, Result, Ok, Err, codes}
+use Rattle.std.specs.Str.{IsUtf8}
 use Rattle.project_json.specs.Tree.{Tree, null, truth, number, text, list, object, trees_of, fields_of}
-use Rattle.project_json.specs.Grammar.{is_blank, is_digit, is_nonzero_digit, is_unescaped, put}
+use Rattle.project_json.specs.Bytes.{is_blank, is_digit}
+use Rattle.project_json.specs.Numbers.{is_nonzero_digit, is_e, is_sign}
+use Rattle.project_json.specs.Strings.{Piece, byte, unit, unit_of, is_unescaped, is_escape, escaped, is_hex, joined}
+use Rattle.project_json.specs.Grammar.{put}
 use Rattle.project_json.specs.declared.stop.Stop.{Stop}
 use Rattle.project_json.specs.declared.stop.Stop.TheVariants as stop
 
+-- UTF-8, as one word that no tactic opens
+unfoldable pub Utf8 : List ℕ → Type 0
+Utf8 bs = IsUtf8 bs
+
 pub data Fault : Type 0 where
   syntax : ℕ → Fault
+  too_deep : ℕ → Fault
 
 -- a part of type A and the bytes after it, or the fault
 abbrev pub Read : Type 0 → Type 0
@@ -21,6 +30,7 @@ abbrev pub ◌>>=◌ : {A B : Type 0} → Result A Fault → (A → Result B Fau
 abbrev pub Fails : {Y : Type 0} → Stop → Result Y Fault → Type 0
 Fails stop.NoMemory read = Unit {0}
 Fails (stop.Syntax left) read = read ≡ Err (syntax left)
+Fails (stop.TooDeep left) read = read ≡ Err (too_deep left)
 
 -- what a function returned, seen by view, is what reading gives, unless memory ran out
 abbrev pub Gives : {X Y : Type 0} → (X → Y) → Result X Stop → Result Y Fault → Type 0
@@ -49,11 +59,8 @@ abbrev pub after_digits : List ℕ → List ℕ
 after_digits [] = []
 after_digits (b ∷ bs) = if is_digit b then after_digits bs else b ∷ bs
 
-abbrev pub with_char : ℕ → Read (List ℕ) → Read (List ℕ)
-with_char b read = read >>= λ x. Ok (b ∷ x.0, x.1)
-
-abbrev pub with_chars : List ℕ → Read (List ℕ) → Read (List ℕ)
-with_chars bs read = read >>= λ x. Ok (bs ++ x.0, x.1)
+abbrev pub with_front : List ℕ → Read (List ℕ) → Read (List ℕ)
+with_front front read = read >>= λ x. Ok (front ++ x.0, x.1)
 
 abbrev pub int_at : List ℕ → Read (List ℕ)
 int_at [] = Err (syntax 0)
@@ -62,21 +69,70 @@ int_at (b ∷ bs) =
     else if is_nonzero_digit b then Ok (b ∷ digits bs, after_digits bs)
     else Err (syntax (length (b ∷ bs)))
 
+abbrev pub some_digits_at : List ℕ → Read (List ℕ)
+some_digits_at [] = Err (syntax 0)
+some_digits_at (b ∷ bs) = if is_digit b then Ok (b ∷ digits bs, after_digits bs) else Err (syntax (length (b ∷ bs)))
+
+abbrev pub fraction_at : List ℕ → Read (List ℕ)
+fraction_at [] = Ok ([], [])
+fraction_at (b ∷ bs) = if b == 46 then with_front (46 ∷ []) (some_digits_at bs) else Ok ([], b ∷ bs)
+
+-- what stands behind the letter of an exponent
+abbrev pub signed_digits_at : List ℕ → Read (List ℕ)
+signed_digits_at [] = Err (syntax 0)
+signed_digits_at (b ∷ bs) = if is_sign b then with_front (b ∷ []) (some_digits_at bs) else some_digits_at (b ∷ bs)
+
+abbrev pub exponent_at : List ℕ → Read (List ℕ)
+exponent_at [] = Ok ([], [])
+exponent_at (b ∷ bs) = if is_e b then with_front (b ∷ []) (signed_digits_at bs) else Ok ([], b ∷ bs)
+
+abbrev pub unsigned_at : List ℕ → Read (List ℕ)
+unsigned_at bs = int_at bs >>= (λ w. with_front w.0 (fraction_at w.1 >>= (λ f. with_front f.0 (exponent_at f.1))))
+
 -- a number's own text
 abbrev pub digits_at : List ℕ → Read (List ℕ)
 digits_at [] = Err (syntax 0)
-digits_at (b ∷ bs) = if b == 45 then with_char 45 (int_at bs) else int_at (b ∷ bs)
+digits_at (b ∷ bs) = if b == 45 then with_front (45 ∷ []) (unsigned_at bs) else unsigned_at (b ∷ bs)
 
-abbrev pub number_at : List ℕ → Read Tree
+unfoldable pub number_at : List ℕ → Read Tree
 number_at bs = digits_at bs >>= (λ x. Ok (number x.0, x.1))
 
--- the characters up to the quotation mark, and what follows it
-abbrev pub chars_at : List ℕ → Read (List ℕ)
-chars_at [] = Err (syntax 0)
-chars_at (b ∷ bs) =
-    if b == 34 then Ok ([], bs)
-    else if is_unescaped b then with_char b (chars_at bs)
+abbrev pub hex_at : List ℕ → Read ℕ
+hex_at [] = Err (syntax 0)
+hex_at (b ∷ bs) = if is_hex b then Ok (b, bs) else Err (syntax (length (b ∷ bs)))
+
+abbrev pub unit_at : List ℕ → Read Piece
+unit_at bs = hex_at bs >>= (λ a. hex_at a.1 >>= (λ b. hex_at b.1 >>= (λ c. hex_at c.1 >>= (λ d. Ok (unit (unit_of a.0 b.0 c.0 d.0), d.1)))))
+
+-- what stands behind a backslash
+abbrev pub escape_at : List ℕ → Read Piece
+escape_at [] = Err (syntax 0)
+escape_at (b ∷ bs) = if b == 117 then unit_at bs else if is_escape b then Ok (byte (escaped b), bs) else Err (syntax (length (b ∷ bs)))
+
+-- a piece, or the quotation mark
+abbrev pub piece_at : List ℕ → Read (Option Piece)
+piece_at [] = Err (syntax 0)
+piece_at (b ∷ bs) =
+    if b == 34 then Ok (None, bs)
+    else if b == 92 then escape_at bs >>= (λ x. Ok (Some x.0, x.1))
+    else if is_unescaped b then Ok (Some (byte b), bs)
     else Err (syntax (length (b ∷ bs)))
+
+abbrev pub with_piece : Piece → Read (List Piece) → Read (List Piece)
+with_piece p read = read >>= (λ x. Ok (p ∷ x.0, x.1))
+
+abbrev pub pieces_then : (List ℕ → Read (List Piece)) → Option Piece → List ℕ → Read (List Piece)
+pieces_then more None bs = Ok ([], bs)
+pieces_then more (Some p) bs = with_piece p (more bs)
+
+-- The pieces up to the quotation mark. The number bounds the turns: the length of the bytes is always enough.
+unfoldable pub pieces_at : ℕ → List ℕ → Read (List Piece)
+pieces_at zero bs = Err (syntax (length bs))
+pieces_at (suc n) bs = piece_at bs >>= (λ x. pieces_then (pieces_at n) x.0 x.1)
+
+-- the text up to the quotation mark, and what follows it
+unfoldable pub chars_at : List ℕ → Read (List ℕ)
+chars_at bs = pieces_at (length bs) bs >>= (λ x. Ok (joined x.0, x.1))
 
 -- a name, and the colon behind it
 abbrev pub name_at : List ℕ → Read (List ℕ)
@@ -149,7 +205,7 @@ object_at value bs = object_of value (skip bs)
 
 -- the bracket before these bytes is one too many
 abbrev pub too_deep_at : {A : Type 0} → List ℕ → Read A
-too_deep_at bs = Err (syntax (suc (length bs)))
+too_deep_at bs = Err (too_deep (suc (length bs)))
 
 -- a value, with at most so many brackets open at once
 unfoldable pub value_at : ℕ → List ℕ → Read Tree

@@ -1,10 +1,13 @@
 //! Reads JSON texts (RFC 8259) into documents, and looks their parts up.
 #![tactic(auto)]
 
+mod joining;
 mod json;
+mod laws;
 mod member_list;
 mod numbers;
 mod parts;
+mod pieces;
 mod reading;
 mod refusal;
 mod scanning;
@@ -13,6 +16,9 @@ mod strings;
 mod text;
 
 pub use json::{Items, Json, Member, Members};
+pub use laws::{
+    later_value_is_found, no_more_than_bytes, one_fault, one_tree, text_has_no_fault, text_or_fault,
+};
 pub use parts::{digits_of, is_null, items_of, member, members_of, text_of, truth_of};
 pub use reading::read;
 pub use refusal::JsonRefusal;

@@ -1,10 +1,10 @@
 //! Reads JSON texts.
 
 ghost use Rattle.std.specs.Prelude.{◌≡◌, ◌≤◌, map, [], length, Result, IfOk, IfErr, MatchResult};
-ghost use Rattle.project_json.specs.Grammar.{IsJson};
-ghost use Rattle.project_json.specs.Reading.{Gives, value_with, value_at, list_below, item_at, items_at, object_below, member_at, members_at, text_of};
-ghost use Rattle.project_json.specs.Refusal.{IsCause};
+ghost use Rattle.project_json.specs.Reading.{Gives, Utf8, value_with, value_at, list_below, item_at, items_at, object_below, member_at, members_at, text_of};
+ghost use Rattle.project_json.specs.Refusal.{IsFault, IsCause, IsOrNoMemory};
 ghost use Rattle.project_json.specs.Size.{size_of};
+ghost use Rattle.project_json.specs.Text.{IsText};
 ghost use Rattle.project_json.specs.Tree.{Tree};
 ghost use Rattle.project_json.specs.View.{tree, field};
 
@@ -23,8 +23,9 @@ const MAX_DEPTH: u32 = 256;
 
 // A value, with at most so many brackets open at once, and the bytes after it.
 #[cycle(value)]
-#[tactic(auto, using(crate::proofs::Lists::depth_rules))]
+#[tactic(auto, using(crate::proofs::Lists::depth_rules), unfolding(crate::specs::Reading::number_at, crate::specs::Reading::chars_at))]
 fn value(alloc: Global, depth: u32, bytes: &[u8]) -> Result<(Json, &[u8]), Stop>
+    requires { Utf8 bytes.now }
     ensures { Gives (λ x. (tree x.0, x.1.now)) result (value_with (list_below depth) (object_below depth) bytes.now) }
 {
     match bytes {
@@ -60,10 +61,11 @@ fn value(alloc: Global, depth: u32, bytes: &[u8]) -> Result<(Json, &[u8]), Stop>
 #[cycle(value)]
 #[tactic(auto, using(crate::proofs::Lists::depth_rules))]
 fn list(alloc: Global, depth: u32, bytes: &[u8]) -> Result<(Vec<Json>, &[u8]), Stop>
+    requires { Utf8 bytes.now }
     ensures { Gives (λ x. (map tree x.0.items, x.1.now)) result (list_below depth bytes.now) }
 {
     if depth == 0 {
-        return Err(Stop::Syntax {
+        return Err(Stop::TooDeep {
             left: bytes.len() + 1,
         });
     }
@@ -83,6 +85,7 @@ fn list(alloc: Global, depth: u32, bytes: &[u8]) -> Result<(Vec<Json>, &[u8]), S
 #[cycle(value)]
 #[tactic(auto, using(crate::proofs::Lists::depth_rules), unfolding(crate::specs::Reading::item_at))]
 fn item(alloc: Global, depth: u32, bytes: &[u8]) -> Result<((Json, bool), &[u8]), Stop>
+    requires { Utf8 bytes.now }
     ensures { Gives (λ x. ((tree x.0.0, x.0.1), x.1.now)) result (item_at (value_at depth) bytes.now) }
 {
     let (item, rest) = value(alloc, depth, skip(bytes))?;
@@ -94,6 +97,7 @@ fn item(alloc: Global, depth: u32, bytes: &[u8]) -> Result<((Json, bool), &[u8])
 #[cycle(value)]
 #[tactic(auto, using(crate::proofs::Lists::items_rules))]
 fn items(alloc: Global, depth: u32, bytes: &[u8]) -> Result<(Vec<Json>, &[u8]), Stop>
+    requires { Utf8 bytes.now }
     ensures { Gives (λ x. (map tree x.0.items, x.1.now)) result (items_at (value_at depth) (length bytes.now) bytes.now) }
 {
     let mut items = Vec::new(alloc);
@@ -113,10 +117,11 @@ fn items(alloc: Global, depth: u32, bytes: &[u8]) -> Result<(Vec<Json>, &[u8]), 
 #[cycle(value)]
 #[tactic(auto, using(crate::proofs::Lists::depth_rules))]
 fn object(alloc: Global, depth: u32, bytes: &[u8]) -> Result<(Vec<Member>, &[u8]), Stop>
+    requires { Utf8 bytes.now }
     ensures { Gives (λ x. (map field x.0.items, x.1.now)) result (object_below depth bytes.now) }
 {
     if depth == 0 {
-        return Err(Stop::Syntax {
+        return Err(Stop::TooDeep {
             left: bytes.len() + 1,
         });
     }
@@ -136,6 +141,7 @@ fn object(alloc: Global, depth: u32, bytes: &[u8]) -> Result<(Vec<Member>, &[u8]
 #[cycle(value)]
 #[tactic(auto, using(crate::proofs::Lists::depth_rules), unfolding(crate::specs::Reading::member_at))]
 fn member(alloc: Global, depth: u32, bytes: &[u8]) -> Result<((Text, Json, bool), &[u8]), Stop>
+    requires { Utf8 bytes.now }
     ensures { Gives (λ x. (((x.0.0, tree x.0.1), x.0.2), x.1.now)) result (member_at (value_at depth) bytes.now) }
 {
     let (name, rest) = name_of(alloc, skip(bytes))?;
@@ -148,6 +154,7 @@ fn member(alloc: Global, depth: u32, bytes: &[u8]) -> Result<((Text, Json, bool)
 #[cycle(value)]
 #[tactic(auto, using(crate::proofs::Lists::members_rules))]
 fn members(alloc: Global, depth: u32, bytes: &[u8]) -> Result<(Vec<Member>, &[u8]), Stop>
+    requires { Utf8 bytes.now }
     ensures { Gives (λ x. (map field x.0.items, x.1.now)) result (members_at (value_at depth) (length bytes.now) [] bytes.now) }
 {
     let mut list = MemberList::new(alloc);
@@ -166,6 +173,7 @@ fn members(alloc: Global, depth: u32, bytes: &[u8]) -> Result<(Vec<Member>, &[u8
 // The whole bytes as one value with blanks round it.
 #[tactic(auto, using(crate::proofs::Lists::text_rules))]
 fn text(alloc: Global, bytes: &[u8]) -> Result<Json, Stop>
+    requires { Utf8 bytes.now }
     ensures { Gives tree result (text_of 256 bytes.now) }
 {
     let (value, rest) = value(alloc, MAX_DEPTH, skip(bytes))?;
@@ -176,23 +184,47 @@ fn text(alloc: Global, bytes: &[u8]) -> Result<Json, Stop>
     Ok(value)
 }
 
-/// Reads a JSON text (RFC 8259) whose brackets and braces nest at most 256 deep, whose bytes are
-/// below 128, and that has no escape in a string and no fraction and no exponent in a number.
-/// A byte order mark is no white space. A repeated name keeps its earlier place and takes the later
-/// value. `Syntax` comes exactly where the bytes are no such text.
-pub fn read(alloc: Global, bytes: &[u8]) -> Result<Json, JsonRefusal>
-    // What is read is a JSON text of that tree.
-    ensures found { IfOk result (λ t. IsJson 256 bytes.now (tree t)) }
-    // A JSON text is read as its tree, unless memory runs out.
-    ensures only { (t : Tree) → IsJson 256 bytes.now t → MatchResult result (λ read. tree read ≡ t) (λ e. e ≡ JsonRefusal.NoMemory) }
+// Reads one JSON text of UTF-8.
+fn of_utf8(alloc: Global, bytes: &[u8]) -> Result<Json, JsonRefusal>
+    requires { Utf8 bytes.now }
+    ensures found { IfOk result (λ t. IsText 256 bytes.now (tree t)) }
+    ensures only { (t : Tree) → IsText 256 bytes.now t → MatchResult result (λ read. tree read ≡ t) (λ e. e ≡ JsonRefusal.NoMemory) }
     ensures refused { IfErr result (IsCause 256 bytes.now) }
+    ensures faulty { (r : JsonRefusal) → IsFault 256 bytes.now r → MatchResult result (λ _. ⊥) (IsOrNoMemory r) }
     ensures small { IfOk result (λ t. size_of (tree t) ≤ length bytes.now) }
 {
+    let length = bytes.len();
     match text(alloc, bytes) {
         Ok(json) => Ok(json),
-        Err(Stop::Syntax { left }) => Err(JsonRefusal::Syntax {
-            at: bytes.len().saturating_sub(left),
-        }),
+        Err(Stop::Syntax { left }) => Err(JsonRefusal::Syntax { at: length - left }),
+        Err(Stop::TooDeep { left }) => Err(JsonRefusal::TooDeep { at: length - left }),
         Err(Stop::NoMemory) => Err(JsonRefusal::NoMemory),
+    }
+}
+
+/// Reads a JSON text (RFC 8259) in UTF-8 whose brackets and braces nest at most 256 deep. A number
+/// keeps its own text. An escaped surrogate without its partner is U+FFFD. A byte order mark is no
+/// white space. A repeated name keeps its earlier place and takes the later value.
+///
+/// Unless memory runs out, `NotUtf8` comes exactly where the bytes are no UTF-8; else `Syntax` or
+/// `TooDeep`, whichever is nearer the front, exactly where they are no such text. Each names its
+/// place in bytes.
+pub fn read(alloc: Global, bytes: &[u8]) -> Result<Json, JsonRefusal>
+    // What is read is a JSON text of that tree.
+    ensures found { IfOk result (λ t. IsText 256 bytes.now (tree t)) }
+    // A JSON text is read as its tree, unless memory runs out.
+    ensures only { (t : Tree) → IsText 256 bytes.now t → MatchResult result (λ read. tree read ≡ t) (λ e. e ≡ JsonRefusal.NoMemory) }
+    // A refusal tells a fault of the bytes at its place, or want of memory.
+    ensures refused { IfErr result (IsCause 256 bytes.now) }
+    // Bytes with a fault are refused for it, unless memory runs out.
+    ensures faulty { (r : JsonRefusal) → IsFault 256 bytes.now r → MatchResult result (λ _. ⊥) (IsOrNoMemory r) }
+    // A tree has no more members and items than its text has bytes.
+    ensures small { IfOk result (λ t. size_of (tree t) ≤ length bytes.now) }
+{
+    match str::from_utf8(bytes) {
+        Ok(_) => of_utf8(alloc, bytes),
+        Err(e) => Err(JsonRefusal::NotUtf8 {
+            at: e.valid_up_to(),
+        }),
     }
 }

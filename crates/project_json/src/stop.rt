@@ -9,6 +9,7 @@ use std::alloc::{AllocError, AllocFailed};
 #[derive(Clone, Copy, Debug, PartialEq, Eq)]
 pub enum Stop {
     Syntax { left: usize },
+    TooDeep { left: usize },
     NoMemory,
 }
 

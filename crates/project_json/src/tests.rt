@@ -1,21 +1,32 @@
+//! Worked texts with their trees, and worked faults with their places.
+
 use crate::{
-    Json, JsonRefusal, Text, digits_of, is_null, items_of, member, members_of, read, text_of,
-    truth_of,
+    Json, JsonRefusal, Text, digits_of, is_null, items_of, later_value_is_found, member,
+    members_of, no_more_than_bytes, one_fault, one_tree, read, text_has_no_fault, text_of,
+    text_or_fault, truth_of,
 };
-use std::alloc::{AllocError, Global};
+use std::alloc::Global;
+use std::process::Abort;
 use std::test::Fail;
 
-fn is_refused(alloc: Global, bytes: &[u8]) -> bool {
-    matches!(read(alloc, bytes), Err(JsonRefusal::Syntax { .. }))
+mod faults;
+mod members;
+mod nesting;
+mod numbers;
+mod strings;
+mod utf8;
+
+// The text is no JSON text, and the longest prefix that begins one has `at` bytes.
+fn stops(rt: &impl Abort, alloc: Global, text: &str, at: usize) {
+    let refusal = read(alloc, text.as_bytes()).err();
+    assert_eq!(rt; refusal, Some(JsonRefusal::Syntax { at }), "{text:?}");
 }
 
-// Brackets that nest this deep.
-fn brackets(alloc: Global, depth: usize) -> Result<Vec<u8>, AllocError> {
-    let mut bytes = vec![in alloc; b'['; depth]?;
-    for _ in 0..depth {
-        bytes.push(b']')?;
+// Each text stops at its place.
+fn each_stops(rt: &impl Abort, alloc: Global, rows: &[(&str, usize)]) {
+    for (text, at) in rows {
+        stops(rt, alloc, text, *at);
     }
-    Ok(bytes)
 }
 
 #[test]
@@ -34,75 +45,34 @@ fn reads_each_kind(rt: HostRuntime) -> Result<(), Fail> {
     let items = items_of(member(&json, "l").ok_or("l")?).ok_or("items")?;
     assert_eq!(rt; items.len(), 2);
     assert!(rt; matches!(&items[1], Json::List(_)));
-    assert!(rt; member(&json, "x").is_none());
+    assert_eq!(rt; members_of(&json).ok_or("members")?.len(), 6);
+    assert!(rt; text_of(&json).is_none());
+    assert!(rt; digits_of(&json).is_none());
+    assert_eq!(rt; truth_of(&json), None);
+    assert!(rt; items_of(&json).is_none());
+    assert!(rt; members_of(&items[1]).is_none());
+    assert!(rt; !is_null(&json));
     Ok(())
-}
-
-#[test]
-fn keeps_the_earlier_place_and_the_later_value(rt: HostRuntime) -> Result<(), Fail> {
-    let json = read(rt.alloc(), b"{\"a\":1,\"b\":2,\"a\":3}")?;
-    let members = members_of(&json).ok_or("members")?;
-    assert_eq!(rt; members.len(), 2);
-    assert_eq!(rt; members[0].name().as_str(), "a");
-    assert_eq!(rt; digits_of(members[0].value()).ok_or("a")?.as_str(), "3");
-    assert_eq!(rt; members[1].name().as_str(), "b");
-    assert_eq!(rt; digits_of(members[1].value()).ok_or("b")?.as_str(), "2");
-    Ok(())
-}
-
-#[test]
-fn refuses_what_is_no_plain_text(rt: HostRuntime) {
-    let refused = [
-        "",
-        " ",
-        "[1,]",
-        "[,1]",
-        "{\"a\":1,}",
-        "{\"a\" 1}",
-        "{a:1}",
-        "[1",
-        "]",
-        "01",
-        "-",
-        "-01",
-        "+1",
-        "1.5",
-        "1e2",
-        "\"\\n\"",
-        "\"\t\"",
-        "\"a",
-        "\u{e9}",
-        "\"\u{e9}\"",
-        "\u{feff}1",
-        "\u{b}1",
-        "nul",
-        "True",
-        "1 2",
-    ];
-    for text in refused {
-        assert!(rt; is_refused(rt.alloc(), text.as_bytes()), "{text}");
-    }
 }
 
 #[test]
 fn says_why_it_refuses(rt: HostRuntime) -> Result<(), Fail> {
-    let refusal = read(rt.alloc(), b"[1,]").err().ok_or("read")?;
-    let said = format!(in rt.alloc(); "{refusal}")?;
-    assert_eq!(rt;
-        said.as_str(),
-        "no JSON text: reading stopped after 3 bytes"
-    );
-    let said = format!(in rt.alloc(); "{}", JsonRefusal::NoMemory)?;
-    assert_eq!(rt; said.as_str(), "out of memory");
-    Ok(())
-}
-
-#[test]
-fn nests_256_deep(rt: HostRuntime) -> Result<(), Fail> {
-    let deepest = brackets(rt.alloc(), 256)?;
-    assert!(rt; read(rt.alloc(), deepest.as_slice()).is_ok());
-    let too_deep = brackets(rt.alloc(), 257)?;
-    assert!(rt; is_refused(rt.alloc(), too_deep.as_slice()));
+    let rows = [
+        (JsonRefusal::NotUtf8 { at: 7 }, "not UTF-8 at byte 7"),
+        (
+            JsonRefusal::Syntax { at: 0 },
+            "no JSON text goes on so at byte 0",
+        ),
+        (
+            JsonRefusal::TooDeep { at: 256 },
+            "nested deeper than 256 at byte 256",
+        ),
+        (JsonRefusal::NoMemory, "out of memory"),
+    ];
+    for (refusal, want) in rows {
+        let said = format!(in rt.alloc(); "{refusal}")?;
+        assert_eq!(rt; said.as_str(), want);
+    }
     Ok(())
 }
 
@@ -115,4 +85,14 @@ fn makes_texts(rt: HostRuntime) -> Result<(), Fail> {
     assert!(rt; text == text.clone()?);
     assert!(rt; text != empty);
     Ok(())
+}
+
+#[test]
+fn laws_can_be_called() {
+    one_tree();
+    no_more_than_bytes();
+    later_value_is_found();
+    text_or_fault();
+    text_has_no_fault();
+    one_fault();
 }

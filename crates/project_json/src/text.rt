@@ -1,9 +1,9 @@
 //! Texts and numbers of a document.
 
 ghost use Rattle.std.specs.Prelude.{◌≡◌, [], bytes_eq, IfOk};
-ghost use Rattle.std.specs.Str.{IsUtf8};
 ghost use Rattle.std.specs.Cmp.{partial_equiv_from_equiv};
 ghost use Rattle.std.specs.Cmp.Lexicographic.{nat_list_eq_equiv};
+ghost use Rattle.project_json.specs.Reading.{Utf8};
 
 use std::alloc::{AllocError, Global};
 use std::marker::Model;
@@ -41,14 +41,15 @@ impl Text {
         })
     }
 
-    /// A text of these bytes.
-    pub(crate) fn from_utf8(alloc: Global, bytes: &[u8]) -> Result<Text, AllocError>
-        requires { IsUtf8 bytes.now }
-        ensures { IfOk result (λ t. t ≡ bytes.now) }
+    /// The text of these bytes.
+    #[tactic(auto, unfolding(crate::specs::Reading::Utf8))]
+    pub(crate) fn from_utf8(bytes: Vec<u8>) -> Text
+        requires { Utf8 bytes.items }
+        ensures { result ≡ bytes.items }
     {
-        Ok(Text {
-            text: String::from_utf8_lossy(alloc, bytes)?,
-        })
+        Text {
+            text: String::from_utf8(bytes).unwrap(),
+        }
     }
 
     pub fn as_str(&self) -> &str

@@ -6,7 +6,7 @@ use Rattle.sv_channels.specs.Counts.{Rose}
 use Rattle.player.specs.FormView.{form_view}
 use Rattle.player.specs.Stages.{Fetched}
 use Rattle.player.specs.declared.status.Which.TheVariants as which
-use Rattle.player.proofs.Calls.{exact_refused, exact_unfetched, exact_played, wrote_played}
+use Rattle.player.proofs.Calls.{exact_refused, exact_unfetched, exact_played, wrote_unfetched, wrote_played}
 use Rattle.player.proofs.top.run.Goals as goal
 
 pub returns-in-Err-load-clause-exact : goal.returns-in-Err-load-clause-exact
@@ -60,3 +60,7 @@ returns-clause-bytes g c =
     (subst (λ bs. length bs ≤ 16777216) text c.in-Ok-fetch.ensures.answer.0)
     (subst (λ bs. IfSome held (λ files. get files script ≡ Some bs)) text (subst (λ h. IfSome h (λ files. get files script ≡ Some c.in-Ok-fetch.bytes.items)) c.in-Ok.ensures.held c.in-Ok-fetch.ensures.answer.1))
     c.play_lines.ensures.bytes
+
+pub returns-in-Err-fetch-clause-bytes : goal.returns-in-Err-fetch-clause-bytes
+returns-in-Err-fetch-clause-bytes g c =
+    wrote_unfetched (Vec ℕ Global) (λ v. v.items) (g.H.Shelf.held c.args.shelf.now) _ (form_view c.args.form.now) _ c.in-Err-fetch.status (g.K.Sink.written c.args.out.now) c.in-Err-fetch.ensures.answer

@@ -1,6 +1,6 @@
 use Rattle.std.proofs.Common.{◌≡◌, ◌+◌, ◌-◌, ◌*◌, length, map, []}
 use Rattle.project_json.specs.View.{tree, field}
-use Rattle.project_json.specs.Reading.{value_at, items_at, members_at, with_items}
+use Rattle.project_json.specs.Reading.{Utf8, value_at, items_at, members_at, with_items}
 use Rattle.project_json.proofs.reading.+value.Given as goal
 
 abbrev pub decreases-items : goal.decreases-items
@@ -20,12 +20,16 @@ decreases-value l = 4 * l.depth + 2
 
 -- the items so far, and then what is left
 abbrev pub invariant-items-loop : goal.invariant-items-loop
-invariant-items-loop l =
-    with_items (map tree l.items.items) (items_at (value_at l.depth) (length l.bytes - l.counter) l.rest) ≡ items_at (value_at l.depth) (length l.bytes) l.bytes
+invariant-items-loop l = record {
+  utf8 : Utf8 l.rest;
+  read : with_items (map tree l.items.items) (items_at (value_at l.depth) (length l.bytes - l.counter) l.rest) ≡ items_at (value_at l.depth) (length l.bytes) l.bytes;
+}
 
 abbrev pub invariant-members-loop : goal.invariant-members-loop
-invariant-members-loop l =
-    members_at (value_at l.depth) (length l.bytes - l.counter) (map field l.list.members.items) l.rest ≡ members_at (value_at l.depth) (length l.bytes) [] l.bytes
+invariant-members-loop l = record {
+  utf8 : Utf8 l.rest;
+  read : members_at (value_at l.depth) (length l.bytes - l.counter) (map field l.list.members.items) l.rest ≡ members_at (value_at l.depth) (length l.bytes) [] l.bytes;
+}
 
 abbrev pub decreases-item : goal.decreases-item
 decreases-item l = 4 * l.depth + 3
