@@ -10,10 +10,6 @@ use Rattle.scratch_number.specs.declared.number.Num.TheVariants.{Fixed}
 use Rattle.scratch_number.specs.Number.{number}
 use Rattle.scratch_number.specs.Arithmetic.{remainder, finite_modulo}
 
-pub remainder_up : (a : ℤ) (d : ℕ) → remainder a (pos (suc d)) ≡ int_rem_euclid a (pos (suc d))
-remainder_up (pos a) d = omega (arith, ints)
-remainder_up (negsuc a) d = omega (arith, ints)
-
 -- a remainder is less than its divisor
 rem_size : (a : ℤ) (d : ℕ) → 0 < d → unsigned_abs (int_rem_euclid a (pos d)) < d
 rem_size (pos a) d h = mod_below a d h

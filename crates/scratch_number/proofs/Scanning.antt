@@ -10,10 +10,6 @@ use Rattle.scratch_number.specs.Reading.{after_digits, after_fraction, base_of, 
 use Rattle.scratch_number.specs.declared.number.Num.{Num}
 use Rattle.scratch_number.specs.declared.number.Num.TheVariants.{Nan}
 
-base_of_letter-zero : base_of_letter 0 ≡ 0
-unfolding base_of_letter
-base_of_letter-zero = refl
-
 -- a text of less than two characters begins with no base
 pub base_of-short : (t : List ℕ) → length t < 2 → base_of t ≡ 0
 unfolding base_of base_of_letter

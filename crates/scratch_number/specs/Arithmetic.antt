@@ -81,7 +81,8 @@ finite_modulo a (pos zero) = Nan
 finite_modulo a (pos (suc b)) = Fixed (remainder a (pos (suc b)))
 finite_modulo a (negsuc b) = Fixed (remainder a (negsuc b))
 
--- a modulo b, with the sign of b
+-- a modulo b: with the sign of b where both are finite, a itself where a is finite and b infinite,
+-- and otherwise not a number, as where b is 0
 abbrev pub modulo : Num → Num → Num
 modulo (Fixed a) (Fixed b) = finite_modulo a b
 modulo (Fixed a) Inf = Fixed a

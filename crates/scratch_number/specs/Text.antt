@@ -1,4 +1,5 @@
--- The text of a number: the shortest decimal without exponent.
+-- The text of a number: a minus where it is negative, the whole part and, where there is a fraction,
+-- a point and its digits without zeros at the end, never with an exponent.
 use Rattle.std.specs.Prelude.{ℕ, zero, suc, ◌+◌, ◌/◌, ◌%◌, ◌^◌, ◌==◌, pos, negsuc, if◌then◌else◌, List, [], ◌∷◌, ◌++◌, codes}
 use Rattle.std.specs.Fmt.{decimal}
 use Rattle.scratch_number.specs.declared.number.Num.{Num}

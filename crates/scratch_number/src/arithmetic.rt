@@ -92,7 +92,9 @@ pub fn div(a: Num, b: Num) -> Num
     }
 }
 
-/// What is left of `a` after whole multiples of `b`, with the sign of `b`.
+/// `a` modulo `b`. Where both are finite and `b` is not 0, it is what is left of `a` after whole
+/// multiples of `b`: it has the sign of `b`, or is 0. Where `a` is finite and `b` infinite, it is
+/// `a` itself. In all other cases, as where `b` is 0, it is not a number.
 pub fn modulo(a: Num, b: Num) -> Num
     ensures { result ≡ modulo a b }
 {

@@ -91,8 +91,8 @@ pub fn of_whole(n: i64) -> Num
     of_millionths(n as i128 * 1_000_000)
 }
 
-/// The number of the opposite sign.
-pub fn negated(a: Num) -> Num
+// The number of the opposite sign.
+pub(crate) fn negated(a: Num) -> Num
     ensures { result ≡ negated a }
 {
     match a {

@@ -46,7 +46,6 @@ fn trimmed_number(text: &[u8]) -> Num
 #[tactic(auto, unfolding(crate::specs::Reading::base_of))]
 fn base_of(text: &[u8]) -> u8
     ensures value { result ≡ base_of text.now }
-    ensures small { result ≤ 16 }
     ensures room { 0 < result → 2 ≤ length text.now }
 {
     if text.len() < 2 {
@@ -61,8 +60,7 @@ fn base_of(text: &[u8]) -> u8
 // The base that a letter names; 0 where it names none.
 #[tactic(auto, unfolding(crate::specs::Reading::base_of_letter))]
 fn base_of_letter(letter: u8) -> u8
-    ensures value { result ≡ base_of_letter letter }
-    ensures small { result ≤ 16 }
+    ensures { result ≡ base_of_letter letter }
 {
     match letter {
         b'x' | b'X' => 16,
@@ -76,7 +74,6 @@ fn base_of_letter(letter: u8) -> u8
 #[tactic(auto, unfolding(crate::specs::Reading::based_number))]
 fn based_number(base: u8, digits: &[u8]) -> Num
     requires some { 0 < base }
-    requires small { base ≤ 16 }
     ensures { result ≡ based_number base digits.now }
 {
     if !is_numeral(base, digits) {

@@ -1,4 +1,5 @@
 use super::*;
+use crate::number::negated;
 use std::cmp::Ordering;
 use std::process::Abort;
 use std::test::Fail;

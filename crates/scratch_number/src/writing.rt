@@ -65,9 +65,10 @@ impl NumText {
     }
 }
 
-/// Writes the number's text: the shortest decimal without exponent, `Infinity`, `-Infinity` or
-/// `NaN`. What the buffer held before is gone. The text reads as the number, and no other number
-/// has it.
+/// Writes the number's text: a `-` where it is negative, the whole part and, where there is a
+/// fraction, a point and its digits without zeros at the end, never with an exponent; or
+/// `Infinity`, `-Infinity` or `NaN`. What the buffer held before is gone. The text reads as the
+/// number, and no other number has it.
 pub fn write_text(a: Num, out: &mut NumText)
     ensures text { out.new ≡ text_of a }
     ensures reads_back { number_of out.new ≡ a }

@@ -1,5 +1,5 @@
 -- Streams of 32-bit words: what is left of one behind its first words, and the stream of a seed.
-use Rattle.std.specs.Prelude.{ℕ, zero, suc, List, [], ◌∷◌}
+use Rattle.std.specs.Prelude.{ℕ, zero, suc}
 use Rattle.rand_core.specs.Stream.{Stream, next_u32}
 use Rattle.rand_core.specs.Steps.{stream_of, steps_u32}
 use Rattle.rand_core.specs.Pcg32Seed.{pcg32_seed}
@@ -10,11 +10,6 @@ use Rattle.rand_pcg.specs.Pcg.{pcg32, pcg32_of_seed}
 unfoldable pub without : ℕ → Stream → Stream
 without zero s = s
 without (suc n) s = without n (next_u32 s).1
-
--- the first n words of a stream
-unfoldable pub first : ℕ → Stream → List ℕ
-first zero s = []
-first (suc n) s = (next_u32 s).0 ∷ first n (next_u32 s).1
 
 -- all that a generator PCG32 answers from now on
 abbrev pub answers : Lcg → Stream

@@ -1,8 +1,10 @@
 //! The words of a seed.
 
 ghost use Rattle.std.specs.Prelude.{◌≡◌, ◌<◌, ◌+◌, ◌^◌, ℕ, drop};
+ghost use Rattle.rand_core.specs.Steps.{first_words};
+ghost use Rattle.rand_core.specs.Stream.{next_u32};
 ghost use Rattle.script_words.specs.Counting.{drawn_of, source_of};
-ghost use Rattle.script_words.specs.Words.{answers, first, seeded, without};
+ghost use Rattle.script_words.specs.Words.{answers, seeded, without};
 
 use crate::counting::Counted;
 use rand_core::SeedableRng;
@@ -14,7 +16,7 @@ pub fn pcg(seed: u64, drawn: u64) -> Counted<Pcg32>
     requires { drawn < 2 ^ 62 }
     ensures drawn { drawn_of result ≡ drawn }
     ensures stream { answers (source_of result) ≡ without drawn (answers (seeded seed)) }
-    ensures words { (n : ℕ) → first n (answers (source_of result)) ≡ drop drawn (first (drawn + n) (answers (seeded seed))) }
+    ensures words { (n : ℕ) → first_words next_u32 n (answers (source_of result)) ≡ drop drawn (first_words next_u32 (drawn + n) (answers (seeded seed))) }
 {
     let mut source = Pcg32::seed_from_u64(seed);
     source.advance(drawn);

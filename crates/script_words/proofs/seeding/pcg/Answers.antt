@@ -1,8 +1,10 @@
 use Rattle.std.proofs.Common.{◌≡◌, ap, ◌∙◌}
+use Rattle.rand_core.specs.Steps.{first_words}
+use Rattle.rand_core.specs.Stream.{next_u32}
 use Rattle.rand_pcg.specs.Lcg.{advance}
 use Rattle.rand_pcg.specs.Pcg.{multiplier_64}
 use Rattle.script_words.specs.Counting.{source_of}
-use Rattle.script_words.specs.Words.{answers, first, seeded}
+use Rattle.script_words.specs.Words.{answers, seeded}
 use Rattle.script_words.proofs.WordsLemmas.{answers-advance, first-without}
 use Rattle.script_words.proofs.seeding.pcg.Goals as goal
 
@@ -12,4 +14,4 @@ returns-clause-stream c =
     ap answers from_seed ∙ answers-advance c.args.drawn (seeded c.args.seed)
 
 pub returns-clause-words : goal.returns-clause-words
-returns-clause-words c = λ n. ap (λ s. first n s) (returns-clause-stream c) ∙ first-without c.args.drawn n (answers (seeded c.args.seed))
+returns-clause-words c = λ n. ap (λ s. first_words next_u32 n s) (returns-clause-stream c) ∙ first-without c.args.drawn n (answers (seeded c.args.seed))
