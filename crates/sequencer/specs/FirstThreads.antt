@@ -1,5 +1,6 @@
 -- Threads as a run of the first form keeps them, with a block number in place of statements.
 use Rattle.std.specs.Prelude.{◌≡◌, ℕ, ◌+◌, ◌<◌, List, [], ◌∷◌, length, Some, if◌then◌else◌}
+use Rattle.std.specs.List.{fold}
 use Rattle.block_table.specs.declared.first.types.FirstBlock.{FirstBlock}
 use Rattle.block_table.specs.FirstProject.{Project}
 use Rattle.scratch_values.specs.declared.value.Value.{Value}
@@ -33,5 +34,4 @@ heads_of p target = heads_from target 0 (blocks_at p target)
 
 -- what the scripts of threads make of the values, one after another
 abbrev pub all_run : Project → List FirstThread → List Value → List Value
-all_run p [] vs = vs
-all_run p (t ∷ ts) vs = all_run p ts (all_executed (statements (blocks_at p t.target) t.next) vs)
+all_run p ts vs = fold (λ us t. all_executed (statements (blocks_at p t.target) t.next) us) vs ts

@@ -1,6 +1,6 @@
 //! The members of an object, by their kinds.
 
-ghost use Rattle.std.specs.Prelude.{◌≡◌, map, [], Bool};
+ghost use Rattle.std.specs.Prelude.{◌≡◌, map, []};
 ghost use Rattle.std.specs.Option.{option_map};
 ghost use Rattle.project_json.specs.Parts.{member_of, members_in, items_in, text_in, truth_in};
 ghost use Rattle.project_json.specs.View.{tree, field};
@@ -23,47 +23,32 @@ pub(crate) fn present<'a>(json: &'a Json, name: &str) -> Option<&'a Json>
 pub(crate) fn text(json: &Json) -> Result<&Text, FirstRefusal>
     ensures { Reads (λ t. t.now) result (text_in (tree json.now)) }
 {
-    match text_of(json) {
-        Some(text) => Ok(text),
-        None => Err(FirstRefusal::Shape),
-    }
+    text_of(json).ok_or(FirstRefusal::Shape)
 }
 
 pub(crate) fn items(json: &Json) -> Result<&[Json], FirstRefusal>
     ensures { Reads (λ js. map tree js.now) result (items_in (tree json.now)) }
 {
-    match items_of(json) {
-        Some(items) => Ok(items),
-        None => Err(FirstRefusal::Shape),
-    }
+    items_of(json).ok_or(FirstRefusal::Shape)
 }
 
 pub(crate) fn members(json: &Json) -> Result<&[Member], FirstRefusal>
     ensures { Reads (λ ms. map field ms.now) result (members_in (tree json.now)) }
 {
-    match members_of(json) {
-        Some(members) => Ok(members),
-        None => Err(FirstRefusal::Shape),
-    }
+    members_of(json).ok_or(FirstRefusal::Shape)
 }
 
 pub(crate) fn truth(json: &Json) -> Result<bool, FirstRefusal>
     ensures { Reads (λ b. b) result (truth_in (tree json.now)) }
 {
-    match truth_of(json) {
-        Some(truth) => Ok(truth),
-        None => Err(FirstRefusal::Shape),
-    }
+    truth_of(json).ok_or(FirstRefusal::Shape)
 }
 
 // A member that has to be there.
 pub(crate) fn required<'a>(json: &'a Json, name: &str) -> Result<&'a Json, FirstRefusal>
     ensures { Reads (λ j. tree j.now) result (member_of (tree json.now) name.now) }
 {
-    match member(json, name) {
-        Some(value) => Ok(value),
-        None => Err(FirstRefusal::Shape),
-    }
+    member(json, name).ok_or(FirstRefusal::Shape)
 }
 
 pub(crate) fn required_text<'a>(json: &'a Json, name: &str) -> Result<&'a Text, FirstRefusal>

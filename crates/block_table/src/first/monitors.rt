@@ -1,6 +1,6 @@
 //! The monitors of the document.
 
-ghost use Rattle.std.specs.Prelude.{◌≡◌, map, codes};
+ghost use Rattle.std.specs.Prelude.{◌≡◌, map};
 ghost use Rattle.project_json.specs.View.{tree};
 ghost use Rattle.block_table.specs.FirstForm.{each, no_member, variable_opcode_of, monitor_of};
 ghost use Rattle.block_table.specs.FirstReads.{Reads};

@@ -1,9 +1,8 @@
 //! Whole numbers and the texts of whole numbers.
 
-ghost use Rattle.std.specs.Prelude.{◌≡◌, ◌≤◌, Option, pos, is_some, length, IfOk, string_bytes};
+ghost use Rattle.std.specs.Prelude.{◌≡◌, ◌≤◌, Option, pos, is_some, IfOk};
 ghost use Rattle.std.specs.Fmt.{signed_decimal};
 ghost use Rattle.std.specs.Str.{all_ascii_digits};
-ghost use Rattle.project_json.specs.Parts.{digits_in};
 ghost use Rattle.project_json.specs.View.{tree};
 ghost use Rattle.block_table.specs.FirstForm.{digits_number, whole_number, number_in, number_text_in, value_in, place_in, size_in, direction_in, defaulted};
 ghost use Rattle.block_table.specs.FirstReads.{Reads};
@@ -72,10 +71,7 @@ fn number_of(json: &Json) -> Option<i32>
 pub(crate) fn number(json: &Json) -> Result<i32, FirstRefusal>
     ensures { Reads (λ n. n) result (number_in (tree json.now)) }
 {
-    match number_of(json) {
-        Some(number) => Ok(number),
-        None => Err(FirstRefusal::Shape),
-    }
+    number_of(json).ok_or(FirstRefusal::Shape)
 }
 
 // A text that is a whole number of at most nine digits.

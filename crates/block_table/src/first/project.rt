@@ -190,8 +190,8 @@ fn linked(
     Ok((monitors, blocks))
 }
 
-/// The project of a document of the first form. `Shape` comes exactly where the document is not of
-/// that form, and `NoMemory` where memory ran out. Reading n blocks takes the time of a sort.
+/// The project of a document of the first form. `Shape` comes only where the document is not of
+/// that form, and then nothing else does but `NoMemory`. Reading n blocks takes the time of a sort.
 pub fn first_form(alloc: Global, document: &Json) -> Result<FirstProject, FirstRefusal>
     requires { size_of (tree document.now) < 2 ^ 32 }
     ensures { Reads (λ p. p) result (project_of (tree document.now)) }

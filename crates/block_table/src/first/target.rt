@@ -1,8 +1,8 @@
 //! What a target's members tell.
 
-ghost use Rattle.std.specs.Prelude.{◌≡◌, map, length, codes, bytes_eq};
+ghost use Rattle.std.specs.Prelude.{◌≡◌, map, codes};
 ghost use Rattle.project_json.specs.Parts.{text_in};
-ghost use Rattle.project_json.specs.View.{tree, field};
+ghost use Rattle.project_json.specs.View.{tree};
 ghost use Rattle.block_table.specs.FirstForm.{each, required, defaulted, style_named, style_in, costumes_of, look_of, look_by, target_of, sheet_of};
 ghost use Rattle.block_table.specs.FirstReads.{Reads};
 ghost use Rattle.block_table.specs.FirstViews.{look_seen, sheet_seen};

@@ -2,7 +2,7 @@
 
 ghost use Rattle.std.specs.Prelude.{◌≡◌, map};
 ghost use Rattle.project_json.specs.View.{tree, field};
-ghost use Rattle.block_table.specs.FirstForm.{each, first_two_of, variable_of, is_empty_list, are_empty_lists, of_stage, variables_of, lists_of, first_two_in};
+ghost use Rattle.block_table.specs.FirstForm.{each, variable_of, is_empty_list, are_empty_lists, of_stage, variables_of, lists_of, first_two_in};
 ghost use Rattle.block_table.specs.FirstReads.{Reads};
 
 use crate::first::members::{defaulted_members, items, text};

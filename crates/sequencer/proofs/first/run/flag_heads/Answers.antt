@@ -12,7 +12,7 @@ pub push_heads-requires : goal.push_heads-requires
 push_heads-requires c =
     let order = c.as_slice-order.result.now in
     let bs = c.blocks-in-loop-i.result.now in
-    let held = target_held c.args.project.now order (length order - 1 - c.loop-i.i) (c.as_slice-order.ensures ∙ c.order.ensures.order) (omega arith) in
+    let held = target_held c.args.project.now order _ (c.as_slice-order.ensures ∙ c.order.ensures.order) (omega arith) in
     let few : length bs ≤ 10000 = few_blocks c.args.project.now _ bs c.order.ensures.well held c.blocks-in-loop-i.ensures.blocks in
     omega (arith, ap length c.as_slice.ensures)
 
