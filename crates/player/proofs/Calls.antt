@@ -6,14 +6,13 @@ use Rattle.std.proofs.lemmas.Bool.Decides.{nat_tests}
 use Rattle.sv_channels.specs.Files.{Files}
 use Rattle.sv_channels.proofs.Gains.{Gained-nil}
 use Rattle.project_json.proofs.Results.{json_one_tree, text_no_fault, same_fault}
-use Rattle.project_json.specs.declared.refusal.JsonRefusal.TheVariants as json_refusal
 use Rattle.block_table.specs.FirstProject.{Project}
 use Rattle.block_table.specs.FirstForm.{project_of}
 use Rattle.sequencer.specs.Frame.{first_world}
 use Rattle.player.specs.Words.{Form}
 use Rattle.player.specs.Lines.{lines_of}
 use Rattle.player.specs.Output.{Ending, no_document, too_large, Outcome, ends, played}
-use Rattle.player.specs.Promise.{Loading, not_json, not_first_form, loaded, Loads, LoadsFile, fetched, accepted, outcome_of, FaultCause, AnswerCause, Wrote}
+use Rattle.player.specs.Promise.{Loading, not_json, not_first_form, loaded, Loads, LoadsFile, fetched, accepted, outcome_of, AnswerCause, Wrote}
 use Rattle.player.specs.Stages.{Fetched, Loaded, PlayedTo}
 use Rattle.player.specs.declared.status.Which.{Which}
 use Rattle.player.specs.declared.status.Which.TheVariants as which
@@ -84,21 +83,6 @@ refused bytes ReadFault loading next a b = absurd a
 refused bytes WriteFault loading next a b = absurd a
 refused bytes (BadScript r) loading next a b = absurd a
 refused bytes (TooLarge file limit) loading next a b = absurd a
-
--- a refused project is no fault, and want of memory stands in no other status
-pub load_fault : (bytes : List ℕ) (fetch_failed write_failed : Type 0) (status : Status) → Loaded bytes (Err status) → FaultCause fetch_failed write_failed status
-load_fault bytes fetch_failed write_failed (BadProject (refusal.Json (json_refusal.NotUtf8 at))) a = tt
-load_fault bytes fetch_failed write_failed (BadProject (refusal.Json (json_refusal.Syntax at))) a = tt
-load_fault bytes fetch_failed write_failed (BadProject (refusal.Json (json_refusal.TooDeep at))) a = tt
-load_fault bytes fetch_failed write_failed (BadProject (refusal.Json json_refusal.NoMemory)) a = a
-load_fault bytes fetch_failed write_failed (BadProject (refusal.Shape path)) a = tt
-load_fault bytes fetch_failed write_failed NoMemory a = tt
-load_fault bytes fetch_failed write_failed Done a = absurd a
-load_fault bytes fetch_failed write_failed Usage a = absurd a
-load_fault bytes fetch_failed write_failed ReadFault a = absurd a
-load_fault bytes fetch_failed write_failed WriteFault a = absurd a
-load_fault bytes fetch_failed write_failed (BadScript r) a = absurd a
-load_fault bytes fetch_failed write_failed (TooLarge file limit) a = absurd a
 
 -- The clauses, by what is told of the files.
 

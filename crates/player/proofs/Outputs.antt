@@ -1,14 +1,14 @@
 -- An output and the part of it that was written.
-use Rattle.std.proofs.Common.{◌≡◌, ℕ, ◌+◌, ◌≤◌, List, [], ◌∷◌, ◌++◌, length, take, Option, None, Some, Err, refl, sym, ap, ◌∙◌, subst, arith, append_assoc, append-nil, length-append}
+use Rattle.std.proofs.Common.{◌≡◌, ℕ, ◌+◌, ◌≤◌, List, [], ◌∷◌, ◌++◌, length, take, Option, Some, Err, refl, sym, ap, ◌∙◌, subst, arith, append_assoc, append-nil, length-append}
 use Rattle.std.proofs.lemmas.List.{take-append-le}
 use Rattle.std.proofs.Math.Seq.{take-append-add}
 use Rattle.sv_channels.specs.Sink.{Gained}
-use Rattle.sv_channels.proofs.Gains.{Gained-nil, Gained-trans}
+use Rattle.sv_channels.proofs.Gains.{Gained-trans}
 use Rattle.block_table.specs.FirstProject.{Project}
 use Rattle.sequencer.specs.World.{World}
 use Rattle.player.specs.declared.lines.Line.{Line}
 use Rattle.player.specs.Lines.{line_of}
-use Rattle.player.specs.Output.{Outcome, Ending, bad_line, ends, with_frames, world_after, frames_after, line_played, played}
+use Rattle.player.specs.Output.{Outcome, with_frames, world_after, frames_after, line_played, played}
 use Rattle.player.specs.Promise.{flat, Wrote}
 use Rattle.player.specs.Stages.{LineWrote}
 use Rattle.player.specs.declared.status.Status.{Status}
@@ -25,15 +25,6 @@ flat-append : (fs gs : List (List ℕ)) → flat (fs ++ gs) ≡ flat fs ++ flat 
 flat-append [] gs = refl
 flat-append (f ∷ fs) gs = ap (λ xs. f ++ xs) (flat-append fs gs) ∙ sym (append_assoc f (flat fs) (flat gs))
 
--- nothing was written yet
-pub part_none : (all left : Outcome) (old : Option (List ℕ)) → left ≡ all → IsPartOf all left old old
-part_none all left old e = record {
-  done = [];
-  frames = ap (λ (o : Outcome). o.frames) (sym e);
-  ending = ap (λ (o : Outcome). o.ending) e;
-  bytes = Gained-nil old;
-}
-
 -- the frames of one more line were written
 pub part_more : (all left next : Outcome) (fs : List (List ℕ)) (old mid new : Option (List ℕ)) → IsPartOf all left old mid → left ≡ with_frames fs next → Gained mid new (flat fs) → IsPartOf all next old new
 part_more all left next fs old mid new part e gained =
@@ -44,16 +35,6 @@ part_more all left next fs old mid new part e gained =
       ending = sym (ap (λ (o : Outcome). o.ending) e) ∙ part.ending;
       bytes = subst (Gained old new) (sym (flat-append part.done fs)) (Gained-trans old mid new (flat part.done) (flat fs) part.bytes gained);
     }
-
--- nothing is left
-pub part_all : (all left : Outcome) (ending : Ending) (old new : Option (List ℕ)) → IsPartOf all left old new → left ≡ ends ending → Gained old new (flat all.frames)
-part_all all left ending old new part e =
-    let none : left.frames ≡ [] = ap (λ (o : Outcome). o.frames) e in
-    let whole : all.frames ≡ part.done = part.frames ∙ ap (λ gs. part.done ++ gs) none ∙ append-nil part.done in
-    subst (λ fs. Gained old new (flat fs)) (sym whole) part.bytes
-
-pub part_ending : (all left : Outcome) (ending : Ending) (old new : Option (List ℕ)) → IsPartOf all left old new → left ≡ ends ending → all.ending ≡ ending
-part_ending all left ending old new part e = sym part.ending ∙ ap (λ (o : Outcome). o.ending) e
 
 take_front : (fs gs : List (List ℕ)) → take (length fs) (fs ++ gs) ≡ fs
 take_front [] gs = refl
@@ -89,9 +70,6 @@ part_cut all left next fs old mid new part e cut =
 pub turn_good : (p : Project) (n : ℕ) (w : World) (line : Line) (bytes : List ℕ) (lines rest : List (List ℕ)) → lines ≡ bytes ∷ rest → Some line ≡ line_of w.clock bytes
     → played p n w lines ≡ with_frames (frames_after p w line) (played p (n + 1) (world_after p w line) rest)
 turn_good p n w line bytes lines rest l e = ap (played p n w) l ∙ ap (λ o. line_played p n w o (λ v. played p (n + 1) v rest)) (sym e)
-
-pub turn_bad : (p : Project) (n : ℕ) (w : World) (bytes : List ℕ) (lines rest : List (List ℕ)) → lines ≡ bytes ∷ rest → None ≡ line_of w.clock bytes → played p n w lines ≡ ends (bad_line n)
-turn_bad p n w bytes lines rest l e = ap (played p n w) l ∙ ap (λ o. line_played p n w o (λ v. played p (n + 1) v rest)) (sym e)
 
 -- What an early end of a line leaves written.
 pub err_wrote : (all left next : Outcome) (fs : List (List ℕ)) (old mid new : Option (List ℕ)) (failed : Type 0) (status : Status) → IsPartOf all left old mid → left ≡ with_frames fs next

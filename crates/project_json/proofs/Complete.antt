@@ -82,10 +82,6 @@ value-starts (items_here ts is e) = (refl, λ e. absurd (omega arith), λ e. abs
 value-starts (no_members_here g) = (refl, λ e. absurd (omega arith), λ e. absurd (omega arith))
 value-starts (members_here ms is e) = (refl, λ e. absurd (omega arith), λ e. absurd (omega arith))
 
-word_again : (word rest : List ℕ) → after_word word (word ++ rest) ≡ Ok rest
-word_again [] rest = refl
-word_again (w ∷ ws) rest = ap (λ t. cond t (after_word ws (ws ++ rest)) (Err (syntax (length (w ∷ ws ++ rest))))) ((Decides-eqb w w).1 refl) ∙ word_again ws rest
-
 unescaped_not : (b : ℕ) → is_unescaped b ≡ true → ((b == 34) ≡ false) × ((b == 92) ≡ false)
 unescaped_not b h = (grind (arith, nat_tests), grind (arith, nat_tests))
 
@@ -228,9 +224,6 @@ number_again (unsigned {ds} s) rest ok =
     subst (λ xs. digits_at (xs ++ rest) ≡ unsigned_at (xs ++ rest)) (sym h.3) (digits_at-size h.0 (h.1 ++ rest) h.2) ∙ unsigned_again ds rest s ok
 number_again (minus_and {ds} s) rest ok = ap (with_front (45 ∷ [])) (unsigned_again ds rest s ok)
 
-mark_comma : (close : ℕ) (rest : List ℕ) → mark_at close (44 ∷ rest) ≡ Ok (true, rest)
-mark_comma close rest = refl
-
 mark_close : (close : ℕ) (rest : List ℕ) → (close == 44) ≡ false → mark_at close (close ∷ rest) ≡ Ok (false, rest)
 mark_close close rest ne =
     ap (λ t. cond t (Ok (true, rest)) (cond (close == close) (Ok (false, rest)) (Err (syntax (length (close ∷ rest)))))) ne
@@ -318,9 +311,6 @@ with_number items members b bs h =
     let f : (b == 91) ≡ false = grind (arith, nat_tests) in
     let g : (b == 123) ≡ false = grind (arith, nat_tests) in
     rw (a, c, d, e, f, g) refl
-
-with_minus : (items : List ℕ → Read (List Tree)) (members : List ℕ → Read (List (List ℕ × Tree))) (bs : List ℕ) → value_with items members (45 ∷ bs) ≡ number_at (45 ∷ bs)
-with_minus items members bs = refl
 
 with_digits : (items : List ℕ → Read (List Tree)) (members : List ℕ → Read (List (List ℕ × Tree))) {ds : List ℕ} (new : List ℕ) → IsNumber ds → value_with items members (ds ++ new) ≡ number_at (ds ++ new)
 with_digits items members new (unsigned {ds} s) = let h = unsigned_head ds s in subst (λ xs. value_with items members (xs ++ new) ≡ number_at (xs ++ new)) (sym h.3) (with_number items members h.0 (h.1 ++ new) h.2)

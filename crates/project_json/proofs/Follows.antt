@@ -49,10 +49,6 @@ skipped : (bs : List ℕ) → NoBlank (skip bs)
 skipped [] = tt
 skipped (b ∷ bs) = elim (is_blank b) as (λ t. is_blank b ≡ t → NoBlank (cond t (skip bs) (b ∷ bs))) [ true ↦ λ e. skipped bs | false ↦ λ e. e ] refl
 
-skip_none : (bs : List ℕ) → NoBlank bs → skip bs ≡ bs
-skip_none [] h = refl
-skip_none (b ∷ bs) h = ap (λ t. cond t (skip bs) (b ∷ bs)) h
-
 word_law : (n : ℕ) (fs : List Frame) (ws bs : List ℕ) → fate n bs (word ws) fs ≡ after_word ws bs >>= (λ rest. fate n rest after fs)
 word_law n [] [] [] = refl
 word_law n (f ∷ fs) [] [] = refl

@@ -147,10 +147,6 @@ pub from_utf8 : (bs : List ℕ) → Utf8 bs → IsUtf8 bs
 unfolding Utf8
 from_utf8 bs u = u
 
-pub first_past : (b : ℕ) (bs rest : List ℕ) → b < 128 → bs ≡ b ∷ rest → Utf8 bs → Utf8 rest
-unfolding Utf8
-first_past b bs rest h e u = tail_utf8 b rest h (subst IsUtf8 e u)
-
 -- behind the first byte
 pub drop_past : (bs : List ℕ) → 0 < length bs → get_or bs 0 0 < 128 → Utf8 bs → Utf8 (take (length bs - 1) (drop 1 bs))
 unfolding Utf8

@@ -1,4 +1,3 @@
-pub mod Fetches
 pub mod Gains
 pub mod Named
 pub mod Rows

@@ -119,6 +119,7 @@ fn missing_files_and_folders_are_failures(rt: HostRuntime) -> Result<(), Fail> {
         shelf.fetch(alloc, "missing", 9).err(),
         Some(FetchError::Failed)
     );
+    assert_eq!(rt; shelf.fetch(alloc, ".", 9).err(), Some(FetchError::Failed));
     assert_eq!(rt;
         shelf.put(alloc, "missing/file", b"abc"),
         Err(PutError::Failed)

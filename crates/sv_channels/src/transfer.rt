@@ -1,7 +1,7 @@
 //! Loops that read from a file and write to a file or to the standard output.
 
-ghost use Rattle.std.specs.Prelude.{◌≡◌, ◌≤◌, length, take, IfOk, IfSome};
-ghost use Rattle.std.specs.Bool.{OnTrue};
+ghost use Rattle.std.specs.Prelude.{◌≡◌, ℕ, ◌≤◌, length, take, IfOk, IfSome};
+ghost use Rattle.std.specs.Bool.{OnTrue, OnFalse};
 ghost use Rattle.std.specs.Io.KnownBytes.{Appends, Consumes};
 ghost use Rattle.sv_channels.specs.declared.transfer.ReadStop.TheVariants as stops;
 
@@ -58,6 +58,10 @@ pub(crate) fn read_up_to<F: Read>(
 // Writes all the bytes, and says whether that went well. A write that takes none of them is a fault.
 pub(crate) fn write_whole<W: Write>(writer: &mut W, bytes: &[u8]) -> bool
     ensures bytes { OnTrue result (Appends (W.contents writer.old) (W.contents writer.new) bytes.now) }
+
+    // A first part of them is written before a fault.
+    ensures part { OnFalse result ((count : ℕ) × (count ≤ length bytes.now)
+        × Appends (W.contents writer.old) (W.contents writer.new) (take count bytes.now)) }
 {
     let mut rest = bytes;
     for _ in 0..u64::MAX {
