@@ -1,4 +1,5 @@
 pub mod Bound
+pub mod Commands
 pub mod Each
 pub mod Linked
 pub mod Noted

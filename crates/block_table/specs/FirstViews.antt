@@ -1,8 +1,9 @@
--- What the code reads of the first form, as the definitions have it.
-use Rattle.std.specs.Prelude.{ℕ, ℤ, List, Option, map}
+-- What the code reads of the first form, as the definitions have it. Private functions alone cite these.
+use Rattle.std.specs.Prelude.{ℕ, ℤ, List, Bool, Option, is_some, map}
 use Rattle.std.specs.BTreeMap.{get_by}
 use Rattle.std.specs.Ordering.{nat_cmp}
 use Rattle.std.specs.Cmp.Lexicographic.{slice_cmp}
+use Rattle.project_json.specs.Tree.{Tree}
 use Rattle.project_json.specs.View.{field}
 use Rattle.block_table.specs.FirstForm as form
 use Rattle.block_table.specs.FirstOrder.{Layered}
@@ -22,6 +23,14 @@ sheet_seen s = record { target = s.target; variables = s.variables.items; blocks
 -- the place that is noted under a name
 abbrev pub place_at : Places → List ℕ → Option ℕ
 place_at p q = get_by (λ k. slice_cmp nat_cmp q k.now) p.places
+
+-- whether a value is a set or change block
+abbrev pub is_command_block : Tree → Bool
+is_command_block t = is_some (form.fitting form.is_command (form.opcode_of t))
+
+-- which of the blocks are set or change blocks
+abbrev pub commands_of : List (List ℕ × Tree) → List Bool
+commands_of ms = map (λ m. is_command_block m.1) ms
 
 -- layer orders with their places
 abbrev pub ranks : List Layered → List (ℤ × ℕ)

@@ -4,6 +4,7 @@
 //! variables of the stage alone. docs/formats.md lists its seven rules.
 
 mod blocks;
+mod commands;
 mod members;
 mod monitors;
 mod numbers;

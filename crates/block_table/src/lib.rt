@@ -3,14 +3,12 @@
 
 mod first;
 mod style;
-mod texts;
 
 pub use first::{
     FirstBlock, FirstBlocks, FirstCode, FirstMonitor, FirstMonitors, FirstOrder, FirstProject,
     FirstRefusal, FirstTarget, FirstTargets, FirstVariable, FirstVariables, first_form,
 };
 pub use style::Style;
-pub use texts::Texts;
 
 #[cfg(test)]
 mod tests;

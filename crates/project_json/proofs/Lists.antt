@@ -1,7 +1,7 @@
 -- Lists of items and members, a step further, and the whole text.
-use Rattle.std.proofs.Common.{◌≡◌, ℕ, zero, suc, ◌-◌, ◌<◌, true, false, List, [], ◌∷◌, ◌++◌, length, Ok, Err, refl, sym, ap, ◌∙◌, arith, append_assoc}
+use Rattle.std.proofs.Common.{◌≡◌, ℕ, zero, suc, ◌-◌, ◌<◌, Bool, true, false, cond, ◌==◌, List, [], ◌∷◌, ◌++◌, length, Ok, Err, refl, sym, ap, ◌∙◌, arith, append_assoc}
 use Rattle.project_json.specs.Tree.{Tree}
-use Rattle.project_json.specs.Reading.{Fault, syntax, too_deep, Fails, text_of, end_of, Read, items_at, items_then, item_at, member_at, members_at, members_then, with_items, value_at, value_with, list_at, object_at, list_below, object_below, skip, ◌>>=◌}
+use Rattle.project_json.specs.Reading.{Fault, syntax, too_deep, Fails, text_of, end_of, Read, items_at, items_then, item_at, member_at, members_at, members_then, with_items, value_at, value_with, list_at, object_at, list_of, object_of, opened_of, opened_at, list_below, object_below, skip, ◌>>=◌}
 use Rattle.project_json.specs.Grammar.{put}
 use Rattle.project_json.specs.declared.stop.Stop.{Stop}
 use Rattle.project_json.specs.declared.stop.Stop.TheVariants as stop
@@ -11,15 +11,37 @@ unfolding value_at
 value_at-is zero bs = refl
 value_at-is (suc n) bs = refl
 
-pub list_below-is : (n : ℕ) (bs : List ℕ) → 0 < n → list_below n bs ≡ list_at (value_at (n - 1)) bs
-list_below-is zero bs h = absurd (omega arith)
-list_below-is (suc n) bs h = let e : n ≡ suc n - 1 = omega arith in ap (λ k. list_at (value_at k) bs) e
+list_of-is : (value : List ℕ → Read Tree) (bs : List ℕ) → list_of value bs ≡ opened_of 93 bs >>= (λ x. cond x.0 (Ok ([], x.1)) (items_at value (length x.1) x.1))
+list_of-is value [] = refl
+list_of-is value (b ∷ bs) = by (b == 93)
+  where
+    by : (t : Bool) → let read : Read Bool = cond t (Ok (true, bs)) (Ok (false, b ∷ bs)) in cond t (Ok ([], bs)) (items_at value (length (b ∷ bs)) (b ∷ bs)) ≡ read >>= (λ x. cond x.0 (Ok ([], x.1)) (items_at value (length x.1) x.1))
+    by true = refl
+    by false = refl
 
-pub object_below-is : (n : ℕ) (bs : List ℕ) → 0 < n → object_below n bs ≡ object_at (value_at (n - 1)) bs
-object_below-is zero bs h = absurd (omega arith)
-object_below-is (suc n) bs h = let e : n ≡ suc n - 1 = omega arith in ap (λ k. object_at (value_at k) bs) e
+object_of-is : (value : List ℕ → Read Tree) (bs : List ℕ) → object_of value bs ≡ opened_of 125 bs >>= (λ x. cond x.0 (Ok ([], x.1)) (members_at value (length x.1) [] x.1))
+object_of-is value [] = refl
+object_of-is value (b ∷ bs) = by (b == 125)
+  where
+    by : (t : Bool) → let read : Read Bool = cond t (Ok (true, bs)) (Ok (false, b ∷ bs)) in cond t (Ok ([], bs)) (members_at value (length (b ∷ bs)) [] (b ∷ bs)) ≡ read >>= (λ x. cond x.0 (Ok ([], x.1)) (members_at value (length x.1) [] x.1))
+    by true = refl
+    by false = refl
+
+pub list_below-is : (n : ℕ) (bs : List ℕ) → list_below n bs ≡ opened_at n 93 bs >>= (λ x. cond x.0 (Ok ([], x.1)) (items_at (value_at (n - 1)) (length x.1) x.1))
+list_below-is zero bs = refl
+list_below-is (suc n) bs = let e : n ≡ suc n - 1 = omega arith in ap (λ k. list_at (value_at k) bs) e ∙ list_of-is (value_at (suc n - 1)) (skip bs)
+
+pub object_below-is : (n : ℕ) (bs : List ℕ) → object_below n bs ≡ opened_at n 125 bs >>= (λ x. cond x.0 (Ok ([], x.1)) (members_at (value_at (n - 1)) (length x.1) [] x.1))
+object_below-is zero bs = refl
+object_below-is (suc n) bs = let e : n ≡ suc n - 1 = omega arith in ap (λ k. object_at (value_at k) bs) e ∙ object_of-is (value_at (suc n - 1)) (skip bs)
+
+pub opened_at-is : (n close : ℕ) (bs : List ℕ) → 0 < n → opened_at n close bs ≡ opened_of close (skip bs)
+opened_at-is zero close bs h = absurd (omega arith)
+opened_at-is (suc n) close bs h = refl
 
 pub ruleset depth_rules = (value_at-is, list_below-is, object_below-is)
+
+pub ruleset opened_rules = (opened_at-is)
 
 pub with_items-nil : (read : Read (List Tree)) → with_items [] read ≡ read
 with_items-nil (Ok x) = refl

@@ -212,6 +212,16 @@ unfoldable pub value_at : ℕ → List ℕ → Read Tree
 value_at zero = value_with too_deep_at too_deep_at
 value_at (suc n) = value_with (list_at (value_at n)) (object_at (value_at n))
 
+-- whether the bytes begin with this closing bracket, and the bytes after it, else all of them
+abbrev pub opened_of : ℕ → List ℕ → Read Bool
+opened_of close [] = Err (syntax 0)
+opened_of close (b ∷ rest) = if b == close then Ok (true, rest) else Ok (false, b ∷ rest)
+
+-- the same behind a bracket that is the first of at most so many
+abbrev pub opened_at : ℕ → ℕ → List ℕ → Read Bool
+opened_at zero close bs = too_deep_at bs
+opened_at (suc n) close bs = opened_of close (skip bs)
+
 -- what stands behind a bracket that is the first of at most so many
 abbrev pub list_below : ℕ → List ℕ → Read (List Tree)
 list_below zero = too_deep_at

@@ -1,7 +1,7 @@
 //! Reads JSON texts.
 
-ghost use Rattle.std.specs.Prelude.{◌≡◌, ◌≤◌, map, [], length, Result, IfOk, IfErr, MatchResult};
-ghost use Rattle.project_json.specs.Reading.{Gives, Utf8, value_with, value_at, list_below, item_at, items_at, object_below, member_at, members_at, text_of};
+ghost use Rattle.std.specs.Prelude.{◌≡◌, ◌<◌, ◌≤◌, map, [], length, Result, IfOk, IfErr, IsFalse, MatchResult};
+ghost use Rattle.project_json.specs.Reading.{Gives, Utf8, value_with, value_at, skip, opened_at, list_below, item_at, items_at, object_below, member_at, members_at, text_of};
 ghost use Rattle.project_json.specs.Refusal.{IsFault, IsCause, IsOrNoMemory};
 ghost use Rattle.project_json.specs.Size.{size_of};
 ghost use Rattle.project_json.specs.Text.{IsText, max_depth};
@@ -57,12 +57,13 @@ fn value(alloc: Global, depth: u32, bytes: &[u8]) -> Result<(Json, &[u8]), Stop>
     }
 }
 
-// The items behind an opening bracket.
-#[cycle(value)]
-#[tactic(auto, using(crate::proofs::Lists::depth_rules))]
-fn list(alloc: Global, depth: u32, bytes: &[u8]) -> Result<(Vec<Json>, &[u8]), Stop>
-    requires { Utf8 bytes.now }
-    ensures { Gives (λ x. (map tree x.0.items, x.1.now)) result (list_below depth bytes.now) }
+// Behind an opening bracket, with at most so many open at once: whether the closing one stands there,
+// and the bytes after it, else those after the blanks.
+#[tactic(auto, using(crate::proofs::Lists::opened_rules))]
+fn opened(depth: u32, close: u8, bytes: &[u8]) -> Result<(bool, &[u8]), Stop>
+    ensures gives { Gives (λ x. (x.0, x.1.now)) result (opened_at depth close bytes.now) }
+    ensures within { IfOk result (λ _. 0 < depth) }
+    ensures skipped { IfOk result (λ x. IsFalse x.0 → x.1.now ≡ skip bytes.now) }
 {
     if depth == 0 {
         return Err(Stop::TooDeep {
@@ -73,12 +74,27 @@ fn list(alloc: Global, depth: u32, bytes: &[u8]) -> Result<(Vec<Json>, &[u8]), S
     match bytes {
         [] => Err(Stop::Syntax { left: 0 }),
         [b, rest @ ..] => {
-            if *b == b']' {
-                return Ok((Vec::new(alloc), rest));
+            if *b == close {
+                Ok((true, rest))
+            } else {
+                Ok((false, bytes))
             }
-            items(alloc, depth - 1, bytes)
         }
     }
+}
+
+// The items behind an opening bracket.
+#[cycle(value)]
+#[tactic(auto, using(crate::proofs::Lists::depth_rules))]
+fn list(alloc: Global, depth: u32, bytes: &[u8]) -> Result<(Vec<Json>, &[u8]), Stop>
+    requires { Utf8 bytes.now }
+    ensures { Gives (λ x. (map tree x.0.items, x.1.now)) result (list_below depth bytes.now) }
+{
+    let (is_empty, rest) = opened(depth, b']', bytes)?;
+    if is_empty {
+        return Ok((Vec::new(alloc), rest));
+    }
+    items(alloc, depth - 1, rest)
 }
 
 // An item, and whether another follows.
@@ -120,21 +136,11 @@ fn object(alloc: Global, depth: u32, bytes: &[u8]) -> Result<(Vec<Member>, &[u8]
     requires { Utf8 bytes.now }
     ensures { Gives (λ x. (map field x.0.items, x.1.now)) result (object_below depth bytes.now) }
 {
-    if depth == 0 {
-        return Err(Stop::TooDeep {
-            left: bytes.len() + 1,
-        });
+    let (is_empty, rest) = opened(depth, b'}', bytes)?;
+    if is_empty {
+        return Ok((Vec::new(alloc), rest));
     }
-    let bytes = skip(bytes);
-    match bytes {
-        [] => Err(Stop::Syntax { left: 0 }),
-        [b, rest @ ..] => {
-            if *b == b'}' {
-                return Ok((Vec::new(alloc), rest));
-            }
-            members(alloc, depth - 1, bytes)
-        }
-    }
+    members(alloc, depth - 1, rest)
 }
 
 // A member, and whether another follows.

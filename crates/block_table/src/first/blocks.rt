@@ -3,17 +3,18 @@
 ghost use Rattle.std.specs.Prelude.{◌≡◌, ◌<◌, ◌^◌, length, map, codes, bytes_eq, position};
 ghost use Rattle.project_json.specs.Parts.{digits_in};
 ghost use Rattle.project_json.specs.View.{tree, field};
-ghost use Rattle.block_table.specs.FirstForm.{fitting, number_in, two_in, opcode_of, is_command, later_command, next_of, only_named, is_one, is_literal_kind, literal_in, field_in, operands_of, code_of, block_of, blocks_of};
+ghost use Rattle.block_table.specs.FirstForm.{fitting, number_in, two_in, opcode_of, later_command, next_of, only_named, is_one, is_literal_kind, literal_in, field_in, operands_of, code_of, block_of, blocks_of};
 ghost use Rattle.block_table.specs.FirstReads.{Reads};
 
+use crate::first::commands::opcode_of;
 use crate::first::members::{
-    defaulted_members, given_members, given_truth, items, present, required_members, required_text,
-    text,
+    defaulted_members, given_members, given_truth, items, present, required_members, text,
 };
 use crate::first::numbers::{number, number_text};
 use crate::first::places::{Ids, Named};
 use crate::first::refusal::FirstRefusal;
 use crate::first::types::{FirstBlock, FirstBlocks, FirstCode};
+use lists::ListOf;
 use project_json::{Json, Member, Text, digits_of};
 use std::alloc::Global;
 
@@ -30,16 +31,11 @@ fn two(json: &Json) -> Result<(&Json, &Json), FirstRefusal>
 fn opcode(json: &Json) -> Result<&Text, FirstRefusal>
     ensures { Reads (λ t. t.now) result (opcode_of (tree json.now)) }
 {
-    required_text(json, "opcode")
-}
-
-fn is_command(opcode: &str) -> bool
-    ensures { result ≡ is_command opcode.now }
-{
-    opcode == "data_setvariableto" || opcode == "data_changevariableby"
+    opcode_of(json).ok_or(FirstRefusal::Shape)
 }
 
 // The place of the later set or change block with the id; i is the place of the block before.
+#[tactic(auto, using(crate::proofs::Commands::later_is))]
 fn later_command(members: &Named, i: u32, id: &str) -> Result<u32, FirstRefusal>
     ensures { Reads (λ j. j) result (later_command (map field members.now.members.now) i id.now) }
 {
@@ -49,11 +45,7 @@ fn later_command(members: &Named, i: u32, id: &str) -> Result<u32, FirstRefusal>
     if place <= i {
         return Err(FirstRefusal::Shape);
     }
-    let Some(member) = members.members.get(place as usize) else {
-        return Err(FirstRefusal::Shape);
-    };
-    let opcode = opcode(member.value())?;
-    if is_command(opcode.as_str()) {
+    if members.is_command(place) {
         Ok(place)
     } else {
         Err(FirstRefusal::Shape)
@@ -220,5 +212,5 @@ pub(crate) fn blocks(
         let block = block(alloc, ids, &named, i as u32, member.value())?;
         blocks.push(block)?;
     }
-    Ok(FirstBlocks::new(blocks))
+    Ok(ListOf::from_vec(blocks))
 }

@@ -1,11 +1,12 @@
 //! The places of names, by name.
 
-ghost use Rattle.std.specs.Prelude.{◌≡◌, ◌<◌, ◌^◌, ℕ, List, OnOk, IfOk, Option, Some, None, bytes_eq, length, map, position, if◌then◌else◌};
+ghost use Rattle.std.specs.Prelude.{◌≡◌, ◌<◌, ◌^◌, ℕ, List, OnOk, IfOk, Option, Some, None, bytes_eq, false, length, map, position, slice_get, unwrap_or, if◌then◌else◌};
 ghost use Rattle.std.specs.Option.{option_or};
 ghost use Rattle.project_json.specs.View.{field};
 ghost use Rattle.block_table.specs.FirstForm.{ids_of, place_named};
-ghost use Rattle.block_table.specs.FirstViews.{place_at};
+ghost use Rattle.block_table.specs.FirstViews.{place_at, commands_of};
 
+use crate::first::commands::commands;
 use crate::first::types::FirstVariable;
 use project_json::{Member, Text};
 use std::alloc::{AllocError, Global};
@@ -93,12 +94,14 @@ impl<'a> Ids<'a> {
     }
 }
 
-/// Members with their places.
+/// Members with their places, and which of them are commands.
 #[derive(Drop)]
 pub(crate) struct Named<'a> {
     pub(crate) members: &'a [Member],
     places: Places<'a>,
+    commands: Vec<bool>,
     ghost placed: { (q : List ℕ) → place_at places q ≡ place_named q (map field members.now) },
+    ghost known: { commands.items ≡ commands_of (map field members.now) },
 }
 
 impl<'a> Named<'a> {
@@ -111,7 +114,12 @@ impl<'a> Named<'a> {
         for (i, member) in members.iter().enumerate() {
             places.put(member.name().as_str(), i as u32)?;
         }
-        Ok(Named { members, places })
+        let commands = commands(alloc, members)?;
+        Ok(Named {
+            members,
+            places,
+            commands,
+        })
     }
 
     /// The place of the first member with the name. It takes the time of a logarithm.
@@ -119,5 +127,15 @@ impl<'a> Named<'a> {
         ensures { result ≡ place_named name.now (map field self.now.members.now) }
     {
         self.places.place(name)
+    }
+
+    /// Whether the member at the place is a set or change block.
+    pub(crate) fn is_command(&self, place: u32) -> bool
+        ensures { result ≡ unwrap_or (slice_get (commands_of (map field self.now.members.now)) place) false }
+    {
+        match self.commands.get(place as usize) {
+            Some(is_command) => *is_command,
+            None => false,
+        }
     }
 }

@@ -14,10 +14,8 @@ use crate::first::order::executable_order;
 use crate::first::places::Ids;
 use crate::first::refusal::FirstRefusal;
 use crate::first::target::{Sheet, sheet_of};
-use crate::first::types::{
-    FirstBlocks, FirstMonitor, FirstMonitors, FirstOrder, FirstProject, FirstTarget, FirstTargets,
-    FirstVariable, FirstVariables,
-};
+use crate::first::types::{FirstBlocks, FirstMonitor, FirstProject, FirstTarget, FirstVariable};
+use lists::ListOf;
 use project_json::{Json, Member, Text};
 use std::alloc::{AllocError, Global};
 
@@ -207,11 +205,11 @@ pub fn first_form(alloc: Global, document: &Json) -> Result<FirstProject, FirstR
             } = parts;
             let variables = without_ids(alloc, variables)?;
             Ok(FirstProject::new(
-                FirstTargets::new(targets),
+                ListOf::from_vec(targets),
                 blocks,
-                FirstVariables::new(variables),
-                FirstMonitors::new(monitors),
-                FirstOrder::new(order),
+                ListOf::from_vec(variables),
+                ListOf::from_vec(monitors),
+                ListOf::from_vec(order),
             ))
         }
         Err(refusal) => Err(refusal),

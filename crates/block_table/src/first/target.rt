@@ -18,7 +18,7 @@ use crate::first::refusal::FirstRefusal;
 use crate::first::types::{FirstTarget, FirstVariable};
 use crate::first::variables::{lists, variables};
 use crate::style::Style;
-use crate::texts::Texts;
+use lists::ListOf;
 use project_json::{Json, Member, Text};
 use std::alloc::Global;
 
@@ -134,7 +134,7 @@ fn target(alloc: Global, is_stage: bool, json: &Json) -> Result<FirstTarget, Fir
     Ok(FirstTarget {
         is_stage,
         name,
-        costumes: Texts::new(costumes),
+        costumes: ListOf::from_vec(costumes),
         costume,
         layer_order,
         visible: seen.visible,

@@ -3,8 +3,8 @@
 ghost use Rattle.std.specs.Prelude.{◌≡◌, ◌<◌, length, slice_get, Some};
 
 use crate::style::Style;
-use crate::texts::Texts;
-use project_json::Text;
+use lists::ListOf;
+use project_json::{Text, Texts};
 use std::marker::Model;
 
 /// A target, the stage or a sprite, as its members tell it (Scratch 3 project file format). The
@@ -61,154 +61,20 @@ pub struct FirstMonitor {
 }
 
 /// The targets, in the order of the file.
-#[derive(Debug, Drop)]
-pub struct FirstTargets {
-    targets: Vec<FirstTarget>,
-}
-
-impl Model for FirstTargets {
-    ghost use Rattle.std.specs.Prelude.{List};
-    ghost use Rattle.block_table.specs.declared.first.types.FirstTarget.{FirstTarget};
-
-    ghost Value = { List FirstTarget };
-
-    ghost view = { λ a. a.targets.items };
-}
-
-impl FirstTargets {
-    pub(crate) fn new(targets: Vec<FirstTarget>) -> FirstTargets
-        ensures { result ≡ targets.items }
-    {
-        FirstTargets { targets }
-    }
-
-    /// The targets, in order.
-    pub fn as_slice(&self) -> &[FirstTarget]
-        ensures { result.now ≡ self.now }
-    {
-        &self.targets
-    }
-}
+pub type FirstTargets = ListOf<FirstTarget>;
 
 /// The blocks of one target, in the order of the document. A block's place is its number.
-#[derive(Debug, Drop)]
-pub struct FirstBlocks {
-    blocks: Vec<FirstBlock>,
-}
-
-impl Model for FirstBlocks {
-    ghost use Rattle.std.specs.Prelude.{List};
-    ghost use Rattle.block_table.specs.declared.first.types.FirstBlock.{FirstBlock};
-
-    ghost Value = { List FirstBlock };
-
-    ghost view = { λ a. a.blocks.items };
-}
-
-impl FirstBlocks {
-    pub(crate) fn new(blocks: Vec<FirstBlock>) -> FirstBlocks
-        ensures { result ≡ blocks.items }
-    {
-        FirstBlocks { blocks }
-    }
-
-    /// The blocks, in order.
-    pub fn as_slice(&self) -> &[FirstBlock]
-        ensures { result.now ≡ self.now }
-    {
-        &self.blocks
-    }
-}
+pub type FirstBlocks = ListOf<FirstBlock>;
 
 /// The variables of the stage, in the order of the document.
-#[derive(Debug, Drop)]
-pub struct FirstVariables {
-    variables: Vec<FirstVariable>,
-}
-
-impl Model for FirstVariables {
-    ghost use Rattle.std.specs.Prelude.{List};
-    ghost use Rattle.block_table.specs.declared.first.types.FirstVariable.{FirstVariable};
-
-    ghost Value = { List FirstVariable };
-
-    ghost view = { λ a. a.variables.items };
-}
-
-impl FirstVariables {
-    pub(crate) fn new(variables: Vec<FirstVariable>) -> FirstVariables
-        ensures { result ≡ variables.items }
-    {
-        FirstVariables { variables }
-    }
-
-    /// The variables, in order.
-    pub fn as_slice(&self) -> &[FirstVariable]
-        ensures { result.now ≡ self.now }
-    {
-        &self.variables
-    }
-}
+pub type FirstVariables = ListOf<FirstVariable>;
 
 /// The monitors, in the order of the file.
-#[derive(Debug, Drop)]
-pub struct FirstMonitors {
-    monitors: Vec<FirstMonitor>,
-}
-
-impl Model for FirstMonitors {
-    ghost use Rattle.std.specs.Prelude.{List};
-    ghost use Rattle.block_table.specs.declared.first.types.FirstMonitor.{FirstMonitor};
-
-    ghost Value = { List FirstMonitor };
-
-    ghost view = { λ a. a.monitors.items };
-}
-
-impl FirstMonitors {
-    pub(crate) fn new(monitors: Vec<FirstMonitor>) -> FirstMonitors
-        ensures { result ≡ monitors.items }
-    {
-        FirstMonitors { monitors }
-    }
-
-    /// The monitors, in order.
-    pub fn as_slice(&self) -> &[FirstMonitor]
-        ensures { result.now ≡ self.now }
-    {
-        &self.monitors
-    }
-}
+pub type FirstMonitors = ListOf<FirstMonitor>;
 
 /// The places of the targets in executable order: the stage, and then the sprites by their layer
 /// order, those with an equal one in the order of the file.
-#[derive(Debug, Drop)]
-pub struct FirstOrder {
-    places: Vec<u32>,
-}
-
-impl Model for FirstOrder {
-    ghost use Rattle.std.specs.Prelude.{List, ℕ};
-
-    ghost Value = { List ℕ };
-
-    ghost view = { λ a. a.places.items };
-}
-
-impl FirstOrder {
-    pub(crate) fn new(places: Vec<u32>) -> FirstOrder
-        ensures { result ≡ places.items }
-    {
-        FirstOrder { places }
-    }
-
-    /// The places, in order.
-    pub fn as_slice(&self) -> &[u32]
-        ensures { result.now ≡ self.now }
-    {
-        &self.places
-    }
-}
+pub type FirstOrder = ListOf<u32>;
 
 /// A project of the first form. By its type each link names a later set or change block of its
 /// target, each variable of a block and of a monitor is one of the stage, and each target has its

@@ -63,10 +63,10 @@ pub item-value-requires : goal.item-value-requires
 item-value-requires t c = (search rules, skip_past c.args.bytes.now c.skip.result.now c.skip.ensures c.requires)
 
 pub list-items-requires : goal.list-items-requires
-list-items-requires t c = (search rules, skip_past c.args.bytes.now c.skip-bytes.result.now c.skip-bytes.ensures c.requires)
+list-items-requires t c = (search rules, skip_past c.args.bytes.now c.in_ok-is_empty.rest.now (c.in_ok-is_empty.ensures.skipped c.if-is_empty.false) c.requires)
 
 pub object-members-requires : goal.object-members-requires
-object-members-requires t c = (search rules, skip_past c.args.bytes.now c.skip-bytes.result.now c.skip-bytes.ensures c.requires)
+object-members-requires t c = (search rules, skip_past c.args.bytes.now c.in_ok-is_empty.rest.now (c.in_ok-is_empty.ensures.skipped c.if-is_empty.false) c.requires)
 
 pub member-name_of-requires : goal.member-name_of-requires
 member-name_of-requires t c = skip_past c.args.bytes.now c.skip.result.now c.skip.ensures c.requires

@@ -14,7 +14,7 @@ executable_order-requires c =
     let f = few (tree c.args.document.now) (parts_seen c.in-Ok.parts) c.in-Ok.ensures in
     omega (arith, f.targets, c.requires, ap length c.as_slice.ensures.value)
 
-pub new-requires-in-Ok-4-clause-well : goal.new-requires-in-Ok-4-clause-well
-new-requires-in-Ok-4-clause-well c =
+pub new-requires-clause-well : goal.new-requires-clause-well
+new-requires-clause-well c =
     let w = well (tree c.args.document.now) (parts_seen c.in-Ok.parts) c.in_ok-monitors-in-Ok.monitors.items c.in_ok-monitors-in-Ok.blocks.items c.requires c.in-Ok.ensures c.in_ok-monitors-in-Ok.ensures in
-    rw (c.new.ensures, c.new-in-Ok.ensures, c.in_ok-variables-in-Ok.ensures, c.new-in-Ok-2.ensures) w
+    rw (c.from_vec.ensures, c.from_vec-in-Ok.ensures, c.in_ok-variables-in-Ok.ensures, c.from_vec-in-Ok-2.ensures) w
