@@ -47,18 +47,6 @@ seen_now s t b h =
       less = omega (arith, fewer, a, n);
     }
 
-pub grown_none : (s : List Bool) (t : List ℕ) → IsGrown [] s t s t
-grown_none s t = record {
-  each = refl;
-  all = λ c i. absurd (let lt = i.1 in omega arith);
-  kept = λ c p. p;
-  only = λ c p. inl p;
-  waits = λ c p. inl p;
-  still = λ c p. p;
-  listed = λ c p. inl p;
-  less = omega arith;
-}
-
 pub grown_more : (xs : List ℕ) (y : ℕ) (s : List Bool) (t : List ℕ) (s' : List Bool) (t' : List ℕ) (s'' : List Bool) (t'' : List ℕ) → IsGrown xs s t s' t' → IsGrown (y ∷ []) s' t' s'' t'' → IsGrown (xs ++ y ∷ []) s t s'' t''
 grown_more xs y s t s' t' s'' t'' a b =
     let y_in : Contains (y ∷ []) y = Contains-push [] y in

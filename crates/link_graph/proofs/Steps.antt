@@ -13,9 +13,6 @@ use Rattle.link_graph.specs.Walk.{IsWalk, IsBegun, IsOn, IsReady, IsUnder, IsTra
 use Rattle.link_graph.proofs.Chains.{chain_end, links_within}
 use Rattle.link_graph.proofs.Sets.{slice_get-set_same, slice_get-set_other, was, stays, count_by-set_one, count_by-set_none, slice_get-push_last, slice_get-push_old, push_was, contains_at, place_of}
 
-new-open : New ≡ Open → ⊥
-new-open e = cc
-
 done-open : Done ≡ Open → ⊥
 done-open e = cc
 
@@ -194,9 +191,6 @@ advanced g marks ranks order f fs w x link d =
       opened = x.opened;
       trail = (record { opened = r.opened; once = r.once; within = omega arith; passed = λ k c h l. elim (cases_lt k f.place) [ inl p ↦ r.passed k c p l | inr p ↦ (let e : k ≡ f.place = omega arith in let s : Some w ≡ Some c = sym link ∙ ap (slice_get (links_of g f.block)) (sym e) ∙ l in let t : w ≡ c = cc in ap (slice_get marks) (sym t) ∙ d) ] }, x.trail.1);
     }
-
-pub advanced_fewer : (g : List (List ℕ)) (marks : List Mark) (f : Frame) (fs : List Frame) → f.place < length (links_of g f.block) → left g marks + ahead g (record { block = f.block; place = f.place + 1 } ∷ fs) < left g marks + ahead g (f ∷ fs)
-advanced_fewer g marks f fs h = omega arith
 
 from_under : (g : List (List ℕ)) (marks : List Mark) (w b : ℕ) (fs : List Frame) → IsUnder g marks b fs → IsOn w fs → Chain g w b
 from_under g marks w b [] u o = absurd o
