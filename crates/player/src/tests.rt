@@ -116,7 +116,7 @@ fn a_write_that_fails(rt: HostRuntime) -> Result<(), Fail> {
     let base = project(alloc, "{}", "{}")?;
     let mut shelf = shelf(alloc, base.as_bytes(), "frame 0 1 0\nframe 0 1 0\n")?;
     let mut fails = Pairs::new(alloc);
-    fails.push(1, 5)?;
+    fails.push((1, 5))?;
     let mut out = MemorySink::new(alloc, fails);
     let status = play(alloc, &words(alloc, "s")?, &mut shelf, &mut out);
     assert!(rt; matches!(status, Status::WriteFault));
