@@ -1,7 +1,7 @@
 use Rattle.std.proofs.Common.{◌≡◌, nat_eq, false, length, sym, ◌∙◌, arith}
 use Rattle.std.proofs.lemmas.Bool.Decides.{nat_tests}
-use Rattle.player.proofs.Pieces.{cut_line, whole_line}
-use Rattle.player.proofs.lines.next_line.Goals as goal
+use Rattle.player.proofs.Cuts.{cut_line, whole_line}
+use Rattle.player.proofs.lines.first_line.Goals as goal
 
 pub returns-then-len-script-clause-line : goal.returns-then-len-script-clause-line
 returns-then-len-script-clause-line c = cut_line c.args.script.now c.line_len-len.result c.line_len-len.ensures c.if-len-script.true

@@ -1,8 +1,8 @@
 use Rattle.std.proofs.Common.{sym, ◌∙◌, ap, arith, subst}
-use Rattle.player.specs.Words.{is_whole}
+use Rattle.player.specs.WholeNumbers.{is_whole}
 use Rattle.std.specs.Str.Parse.{ParsesUnsigned}
-use Rattle.player.proofs.Numerals.{unparsed}
-use Rattle.player.proofs.words.whole_up_to.Goals as goal
+use Rattle.player.proofs.Parsed.{unparsed}
+use Rattle.player.proofs.whole_numbers.whole_up_to.Goals as goal
 
 pub returns-in-Err-clause-number : goal.returns-in-Err-clause-number
 returns-in-Err-clause-number c =

@@ -1,7 +1,7 @@
 use Rattle.std.proofs.Common.{eqb, arith}
 use Rattle.std.proofs.lemmas.List.Splits.{slice_split_first}
-use Rattle.player.proofs.Pieces.{split_none}
-use Rattle.player.proofs.words.cut.Goals as goal
+use Rattle.player.proofs.Cuts.{split_none}
+use Rattle.player.proofs.pieces.cut.Goals as goal
 
 pub returns-in-Some-clause-parted : goal.returns-in-Some-clause-parted
 returns-in-Some-clause-parted c =

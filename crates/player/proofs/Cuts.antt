@@ -1,10 +1,12 @@
 -- A text cut at its first space, and a script cut at its first line end.
-use Rattle.std.proofs.Common.{◌≡◌, ℕ, zero, suc, ◌+◌, ◌-◌, ◌<◌, ◌≤◌, Bool, true, false, cond, eqb, List, [], ◌∷◌, length, take, drop, refl, sym, ap, ◌∙◌, arith, length-drop}
+use Rattle.std.proofs.Common.{◌≡◌, ℕ, zero, suc, ◌+◌, ◌-◌, ◌<◌, ◌≤◌, Bool, true, false, cond, eqb, ltb, None, Some, List, [], ◌∷◌, length, take, drop, refl, sym, ap, ◌∙◌, arith, length-drop}
 use Rattle.std.specs.Prelude.{not}
 use Rattle.std.proofs.lemmas.List.{take_all}
 use Rattle.std.proofs.lemmas.List.Sums.{prefix_len-le-length}
 use Rattle.std.proofs.Math.Seq.{drop-length}
-use Rattle.std.specs.List.{position_or_len, before_first, after_first, slice_split, onto_first}
+use Rattle.std.proofs.lemmas.Iterator.Adapters.{position_from-zero}
+use Rattle.std.proofs.lemmas.Bool.Decides.{nat_tests}
+use Rattle.std.specs.List.{position_from, position_or_len, before_first, after_first, slice_split, onto_first}
 use Rattle.player.specs.Lines.{with_byte, lines_of}
 
 split_one : (b : Bool) (x : ℕ) (xs : List ℕ) (n : ℕ) (parts : List (List ℕ)) → cond (not b) (1 + n) 0 ≡ length (x ∷ xs) → (n ≡ length xs → parts ≡ xs ∷ []) → cond b ([] ∷ parts) (onto_first x parts) ≡ (x ∷ xs) ∷ []
@@ -61,3 +63,25 @@ whole_line [] n s e h = absurd (omega arith)
 whole_line (x ∷ xs) n s e h =
     let none : take (length (x ∷ xs) - length (x ∷ xs)) (drop (length (x ∷ xs)) (x ∷ xs)) ≡ [] = ap (take (length (x ∷ xs) - length (x ∷ xs))) (drop-length (x ∷ xs)) ∙ take_nil (length (x ∷ xs) - length (x ∷ xs)) in
     lines_none x xs (omega (arith, prefix_len-le-length (λ b. not (eqb b 10)) (x ∷ xs))) ∙ ap (λ ys. (x ∷ xs) ∷ lines_of ys) (sym none)
+
+-- the place of the first element that passes, or the length
+
+no_place : (n : ℕ) → None ≡ Some n → ⊥
+no_place n e = cc
+
+at_place : (b : Bool) (n at : ℕ) → cond b (Some n) None ≡ Some at → at ≡ n
+at_place true n at h = let e : Some n ≡ Some at = h in cc
+at_place false n at h = let e : None ≡ Some at = h in absurd (no_place at e)
+
+at_end : (b : Bool) (n : ℕ) → cond b (Some n) None ≡ None → b ≡ false
+at_end true n h = absurd (no_place n (sym h))
+at_end false n h = refl
+
+pub len_at : (p : ℕ → Bool) (xs : List ℕ) (at : ℕ) → Some at ≡ position_from p 0 xs → at ≡ position_or_len p xs
+len_at p xs at h = at_place (ltb (position_or_len p xs) (length xs)) (position_or_len p xs) at (position_from-zero p xs ∙ sym h)
+
+pub len_all : (p : ℕ → Bool) (xs : List ℕ) → None ≡ position_from p 0 xs → length xs ≡ position_or_len p xs
+len_all p xs h =
+    let none = at_end (ltb (position_or_len p xs) (length xs)) (position_or_len p xs) (position_from-zero p xs ∙ sym h) in
+    let most = prefix_len-le-length (λ b. not (p b)) xs in
+    grind (arith, nat_tests)
