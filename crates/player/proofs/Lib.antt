@@ -1,6 +1,6 @@
 mod Rows
-pub mod Pieces
-pub mod Numerals
+pub mod Cuts
+pub mod Parsed
 pub mod LineWords
 pub mod Texts
 pub mod TargetLines

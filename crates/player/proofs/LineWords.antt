@@ -4,7 +4,7 @@ use Rattle.std.specs.Prelude.{codes}
 use Rattle.std.specs.Str.{bytes_eq, IsUtf8, is_utf8}
 use Rattle.std.specs.List.{onto_first}
 use Rattle.std.proofs.lemmas.Str.{is_utf8-from_IsUtf8, IsUtf8-from_is_utf8}
-use Rattle.player.specs.Words.{pieces}
+use Rattle.player.specs.WholeNumbers.{pieces}
 use Rattle.player.specs.Lines.{line_by, text_line, line_of}
 
 -- a first piece and others

@@ -1,6 +1,7 @@
 -- Worked rows, computed by the definitions.
 use Rattle.std.specs.Prelude.{◌≡◌, ℕ, List, [], ◌∷◌, ◌++◌, true, false, pos, Some, None, codes, refl}
 use Rattle.std.specs.Fmt.{digits}
+use Rattle.std.specs.List.{concat}
 use Rattle.std.specs.Str.{is_utf8, chars}
 use lib.Utf8.{encode}
 use Rattle.block_table.specs.declared.style.Style.TheVariants.{AllAround}
@@ -13,12 +14,12 @@ use Rattle.sequencer.specs.Slice.{slice}
 use Rattle.sequencer.specs.Pass.{pass_from, pass}
 use Rattle.sequencer.specs.Frame.{passes, first_world}
 use Rattle.sequencer.proofs.Computing.{counting}
-use Rattle.player.specs.Words.{form_of}
+use Rattle.player.specs.Command.{play, command_of}
 use Rattle.player.specs.declared.lines.Line.TheVariants.{Nothing}
 use Rattle.player.specs.Lines.{lines_of, line_of}
 use Rattle.player.specs.FrameText.{quoted}
-use Rattle.player.specs.Output.{Outcome, whole, bad_line, played}
-use Rattle.player.specs.Promise.{flat}
+use Rattle.player.specs.Output.{Played, whole, bad_line, played}
+use Rattle.player.specs.Promise.{counted}
 
 stage_target : FirstTarget
 stage_target = record { is_stage = true; name = codes "Stage"; costumes = codes "b1" ∷ []; costume = 0; layer_order = pos 0; visible = true; x = pos 0; y = pos 0; size = pos 100; direction = pos 90; style = AllAround }
@@ -46,11 +47,11 @@ text : List (List ℕ) → List ℕ
 text [] = []
 text (l ∷ ls) = l ++ 10 ∷ text ls
 
-outcome : Project → List ℕ → Outcome
+outcome : Project → List ℕ → Played
 outcome p script = played p 1 (first_world p) (lines_of script)
 
 -- the opening frame of the base file
-row-opening_frame : flat (outcome (project_with []) (text (codes "flag" ∷ codes "frame 0 30 1000" ∷ []))).frames ≡ text (
+row-opening_frame : concat (outcome (project_with []) (text (codes "flag" ∷ codes "frame 0 30 1000" ∷ []))).frames ≡ text (
     codes "frame 1 clock 0 words 0" ∷
     codes "stage 1 \"b1\"" ∷
     codes "sprite 1 \"Cat\" original shown 0 0 90 100 1 \"c1\" \"all around\"" ∷
@@ -60,7 +61,7 @@ unfolding stage_target cat_target project_with text outcome statements_within st
 row-opening_frame = refl
 
 -- set n to 5, change n by 2
-row-set_and_change : flat (outcome (project_with set_and_change) (text (codes "flag" ∷ codes "frame 0 1 0" ∷ []))).frames ≡ text (
+row-set_and_change : concat (outcome (project_with set_and_change) (text (codes "flag" ∷ codes "frame 0 1 0" ∷ []))).frames ≡ text (
     codes "frame 1 clock 0 words 0" ∷
     codes "stage 1 \"b1\"" ∷
     codes "sprite 1 \"Cat\" original shown 0 0 90 100 1 \"c1\" \"all around\"" ∷
@@ -104,14 +105,28 @@ row-quoted : quoted (codes "a\"b\\" ++ 10 ∷ []) ≡ codes "\"a\\\"b\\\\\\n\""
 row-quoted = refl
 
 -- the forms of the words
-row-form : form_of (codes "play" ∷ codes "p" ∷ codes "s" ∷ codes "18446744073709551615" ∷ codes "-" ∷ []) ≡ Some (record { project = codes "p"; script = codes "s" })
+row-form : command_of (codes "play" ∷ codes "p" ∷ codes "s" ∷ codes "18446744073709551615" ∷ codes "-" ∷ []) ≡ Some (play (record { project = codes "p"; script = codes "s" }))
 row-form = refl
 
-row-seed_past : form_of (codes "play" ∷ codes "p" ∷ codes "s" ∷ codes "18446744073709551616" ∷ codes "-" ∷ []) ≡ None
+row-seed_past : command_of (codes "play" ∷ codes "p" ∷ codes "s" ∷ codes "18446744073709551616" ∷ codes "-" ∷ []) ≡ None
 row-seed_past = refl
 
-row-seed_leading : form_of (codes "play" ∷ codes "p" ∷ codes "s" ∷ codes "01" ∷ codes "-" ∷ []) ≡ None
+row-seed_leading : command_of (codes "play" ∷ codes "p" ∷ codes "s" ∷ codes "01" ∷ codes "-" ∷ []) ≡ None
 row-seed_leading = refl
 
-row-save : form_of (codes "play" ∷ codes "p" ∷ codes "s" ∷ codes "1" ∷ codes "v" ∷ []) ≡ None
+row-save : command_of (codes "play" ∷ codes "p" ∷ codes "s" ∷ codes "1" ∷ codes "v" ∷ []) ≡ None
 row-save = refl
+
+-- six words, and a file name with blanks at its ends
+row-six_words : command_of (codes "play" ∷ codes "p" ∷ codes "s" ∷ codes "1" ∷ codes "-" ∷ codes "-" ∷ []) ≡ None
+row-six_words = refl
+
+row-blanks : command_of (codes "play" ∷ codes " p " ∷ codes "s" ∷ codes "1" ∷ codes "-" ∷ []) ≡ Some (play (record { project = codes " p "; script = codes "s" }))
+row-blanks = refl
+
+-- a count after three calls, and at its end
+row-counted : counted 3 4 ≡ 7
+row-counted = refl
+
+row-counted_at_the_end : counted 2 18446744073709551615 ≡ 18446744073709551615
+row-counted_at_the_end = refl

@@ -1,4 +1,4 @@
--- What is true of a good line.
+-- A helper of private functions: what is true of a good line.
 use Rattle.std.specs.Prelude.{ℕ, ◌≤◌}
 use Rattle.sequencer.specs.World.{IsBudget}
 use Rattle.player.specs.declared.lines.Line.{Line}

@@ -1,7 +1,10 @@
-pub mod Words
-pub mod FormView
+pub mod WholeNumbers
+pub mod Limits
+pub mod Command
 pub mod GoodLine
 pub mod Lines
+pub mod ScriptState
+pub mod Script
 pub mod FrameText
 pub mod SpriteLine
 pub mod Output

@@ -1,9 +1,10 @@
 -- The lines of an input script.
-use Rattle.std.specs.Prelude.{ℕ, ◌*◌, ◌^◌, nat_le, ◌==◌, ◌&&◌, List, [], ◌∷◌, Option, None, Some, bytes_eq, codes, if◌then◌else◌}
+use Rattle.std.specs.Prelude.{ℕ, nat_le, ◌==◌, ◌&&◌, List, [], ◌∷◌, Option, None, Some, bytes_eq, codes, if◌then◌else◌}
 use Rattle.std.specs.Str.{is_utf8}
 use Rattle.player.specs.declared.lines.Line.{Line}
 use Rattle.player.specs.declared.lines.Line.TheVariants.{Nothing, Flag, Frame}
-use Rattle.player.specs.Words.{whole_up_to, pieces}
+use Rattle.player.specs.Limits.{clock_limit, passes_limit, warp_limit}
+use Rattle.player.specs.WholeNumbers.{whole_up_to, pieces}
 
 -- lines end by byte 10; the last may lack it
 abbrev pub with_byte : ℕ → List (List ℕ) → List (List ℕ)
@@ -26,7 +27,7 @@ budget_by last (Some clock) (Some passes) (Some warp) =
 abbrev pub line_by : ℕ → List (List ℕ) → Option Line
 line_by last (word ∷ []) = if bytes_eq word (codes "flag") then Some Flag else None
 line_by last (word ∷ clock ∷ passes ∷ warp ∷ []) =
-    if bytes_eq word (codes "frame") then budget_by last (whole_up_to (9 * 10 ^ 12) clock) (whole_up_to 10000 passes) (whole_up_to 1000000 warp) else None
+    if bytes_eq word (codes "frame") then budget_by last (whole_up_to clock_limit clock) (whole_up_to passes_limit passes) (whole_up_to warp_limit warp) else None
 line_by last words = None
 
 -- a line of a text: one that is empty or begins with # is nothing; the clock of the last frame is last

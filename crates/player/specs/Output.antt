@@ -1,6 +1,5 @@
 -- The output of a run: what the lines of a script write, one after another, and how it ends.
 use Rattle.std.specs.Prelude.{ℕ, ◌+◌, List, [], ◌∷◌, ◌++◌, Option, None, Some}
-use Rattle.project_json.specs.declared.refusal.JsonRefusal.{JsonRefusal}
 use Rattle.block_table.specs.FirstProject.{Project}
 use Rattle.sequencer.specs.World.{World}
 use Rattle.sequencer.specs.Frame.{frame, flag_line}
@@ -8,26 +7,21 @@ use Rattle.player.specs.Lines.{line_of}
 use Rattle.player.specs.FrameText.{frame_text}
 use Rattle.player.specs.declared.lines.Line.{Line}
 use Rattle.player.specs.declared.lines.Line.TheVariants.{Nothing, Flag, Frame}
-use Rattle.player.specs.declared.status.Which.{Which}
 
--- how a run ends where nothing fails
-pub data Ending : Type 0 where
-  whole : Ending
-  bad_line : ℕ → Ending
-  no_document : JsonRefusal → Ending
-  no_project : Ending
-  too_large : Which → ℕ → Ending
-  missing : Which → Ending
+-- how the lines of a script end where nothing fails: all were played, or this one, counted from 1, is refused
+pub data RunEnding : Type 0 where
+  whole : RunEnding
+  bad_line : ℕ → RunEnding
 
 -- the texts of the frames, each one write, and the ending
-pub record Outcome : Type 0 where
+pub record Played : Type 0 where
   pub frames : List (List ℕ)
-  pub ending : Ending
+  pub ending : RunEnding
 
-abbrev pub ends : Ending → Outcome
+abbrev pub ends : RunEnding → Played
 ends ending = record { frames = []; ending = ending }
 
-abbrev pub with_frames : List (List ℕ) → Outcome → Outcome
+abbrev pub with_frames : List (List ℕ) → Played → Played
 with_frames texts o = record { frames = texts ++ o.frames; ending = o.ending }
 
 -- the world after a good line
@@ -43,11 +37,11 @@ frames_after p w Flag = []
 frames_after p w (Frame b) = frame_text p (frame b w) ∷ []
 
 -- line n: a good line writes its frames and goes on with the world after it; a refused line ends the run
-abbrev pub line_played : Project → ℕ → World → Option Line → (World → Outcome) → Outcome
+abbrev pub line_played : Project → ℕ → World → Option Line → (World → Played) → Played
 line_played p n w None go = ends (bad_line n)
 line_played p n w (Some line) go = with_frames (frames_after p w line) (go (world_after p w line))
 
 -- the lines in order, the first of which has the number n
-abbrev pub played : Project → ℕ → World → List (List ℕ) → Outcome
+abbrev pub played : Project → ℕ → World → List (List ℕ) → Played
 played p n w [] = ends whole
 played p n w (line ∷ lines) = line_played p n w (line_of w.clock line) (λ v. played p (n + 1) v lines)

@@ -1,4 +1,4 @@
--- Parts of the line of a sprite.
+-- Helpers of private functions: parts of the line of a sprite.
 use Rattle.std.specs.Prelude.{ℕ, List, [], ◌∷◌, ◌++◌, codes}
 use Rattle.std.specs.Fmt.{decimal, signed_decimal}
 use Rattle.block_table.specs.declared.first.types.FirstTarget.{FirstTarget}

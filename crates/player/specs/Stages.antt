@@ -1,28 +1,43 @@
--- What the stages of a call answer: a fetch, a load, a line, the lines of a script.
-use Rattle.std.specs.Prelude.{◌≡◌, ℕ, ◌<◌, ◌≤◌, List, [], length, take, Option, Some, IfSome, IsSomeAnd, Result, Ok, Err}
-use Rattle.std.specs.FinMap.{get}
+-- Helpers of private functions: what the stages of a call answer and count. They are a fetch, a load, a line, and the
+-- lines of a script.
+use Rattle.std.specs.Prelude.{◌≡◌, ℕ, ◌≤◌, List, [], length, Option, Result, Ok, Err, ⊤}
+use Rattle.std.specs.List.{concat}
+use Rattle.sv_channels.specs.Counts.{NoneRose}
 use Rattle.sv_channels.specs.Files.{Files}
-use Rattle.sv_channels.specs.Sink.{Gained}
+use Rattle.sv_channels.specs.Shelf.{IsHeld, IsHeldAbove}
+use Rattle.sv_channels.specs.Sink.{Gained, GainedPart}
 use Rattle.block_table.specs.FirstProject.{Project}
-use Rattle.player.specs.Output.{Ending, whole, bad_line}
-use Rattle.player.specs.Promise.{Loads, not_json, not_first_form, loaded, flat}
+use Rattle.player.specs.Output.{RunEnding, whole, bad_line}
+use Rattle.player.specs.Promise.{Loads, not_json, not_first_form, loaded, counted}
 use Rattle.player.specs.declared.status.Which.{Which}
 use Rattle.player.specs.declared.status.Refusal.TheVariants as refusal
-use Rattle.player.specs.declared.status.LineRefusal.TheVariants as line_refusal
+use Rattle.player.specs.declared.script.LineRefusal.TheVariants as line_refusal
 use Rattle.player.specs.declared.status.Status.{Status}
 use Rattle.player.specs.declared.status.Status.TheVariants.{Done, Usage, ReadFault, WriteFault, BadProject, BadScript, TooLarge, NoMemory}
 
 -- what a fetch answers
-abbrev pub Fetched : Option Files → List ℕ → Which → ℕ → Type 0 → {A : Type 0} → (A → List ℕ) → Result A Status → Type 0
-Fetched held name which limit failed items (Ok v) = (length (items v) ≤ limit) × IfSome held (λ files. get files name ≡ Some (items v))
-Fetched held name which limit failed items (Err ReadFault) = failed
-Fetched held name which limit failed items (Err (TooLarge file l)) = (file ≡ which) × (l ≡ limit) × IfSome held (λ files. IsSomeAnd (get files name) (λ bytes. limit < length bytes))
-Fetched held name which limit failed items (Err NoMemory) = Unit {0}
-Fetched held name which limit failed items (Err Done) = ⊥
-Fetched held name which limit failed items (Err Usage) = ⊥
-Fetched held name which limit failed items (Err WriteFault) = ⊥
-Fetched held name which limit failed items (Err (BadProject r)) = ⊥
-Fetched held name which limit failed items (Err (BadScript r)) = ⊥
+abbrev pub Fetched : Option Files → List ℕ → Which → ℕ → Type 0 → Type 0 → {A : Type 0} → (A → List ℕ) → Result A Status → Type 0
+Fetched held name which limit failed wanted items (Ok v) = (length (items v) ≤ limit) × IsHeld held name (items v)
+Fetched held name which limit failed wanted items (Err ReadFault) = failed
+Fetched held name which limit failed wanted items (Err (TooLarge file l)) = (file ≡ which) × (l ≡ limit) × IsHeldAbove held name limit
+Fetched held name which limit failed wanted items (Err NoMemory) = wanted
+Fetched held name which limit failed wanted items (Err Done) = ⊥
+Fetched held name which limit failed wanted items (Err Usage) = ⊥
+Fetched held name which limit failed wanted items (Err WriteFault) = ⊥
+Fetched held name which limit failed wanted items (Err (BadProject r)) = ⊥
+Fetched held name which limit failed wanted items (Err (BadScript r)) = ⊥
+
+-- a fetch that does not fail leaves each name's count of failures
+abbrev pub FetchedSteadily : (List ℕ → ℕ) → (List ℕ → ℕ) → {A : Type 0} → Result A Status → Type 0
+FetchedSteadily before now (Ok v) = NoneRose before now
+FetchedSteadily before now (Err ReadFault) = ⊤
+FetchedSteadily before now (Err (TooLarge file l)) = NoneRose before now
+FetchedSteadily before now (Err NoMemory) = NoneRose before now
+FetchedSteadily before now (Err Done) = ⊥
+FetchedSteadily before now (Err Usage) = ⊥
+FetchedSteadily before now (Err WriteFault) = ⊥
+FetchedSteadily before now (Err (BadProject r)) = ⊥
+FetchedSteadily before now (Err (BadScript r)) = ⊥
 
 -- what a load answers
 abbrev pub Loaded : List ℕ → Result Project Status → Type 0
@@ -39,8 +54,8 @@ Loaded bytes (Err (TooLarge file l)) = ⊥
 
 -- what the play of a line answers, and what it wrote then
 abbrev pub LineWrote : Option (List ℕ) → Option (List ℕ) → List (List ℕ) → Type 0 → {A : Type 0} → Result A Status → Type 0
-LineWrote old new frames failed (Ok u) = Gained old new (flat frames)
-LineWrote old new frames failed (Err WriteFault) = failed × ((n : ℕ) × (n ≤ length (flat frames)) × Gained old new (take n (flat frames)))
+LineWrote old new frames failed (Ok u) = Gained old new (concat frames)
+LineWrote old new frames failed (Err WriteFault) = failed × GainedPart old new (concat frames)
 LineWrote old new frames failed (Err NoMemory) = Gained old new []
 LineWrote old new frames failed (Err Done) = ⊥
 LineWrote old new frames failed (Err Usage) = ⊥
@@ -49,8 +64,32 @@ LineWrote old new frames failed (Err (BadProject r)) = ⊥
 LineWrote old new frames failed (Err (BadScript r)) = ⊥
 LineWrote old new frames failed (Err (TooLarge file l)) = ⊥
 
+-- how many writes the play of a line called for
+abbrev pub LineWrites : ℕ → ℕ → List (List ℕ) → {A : Type 0} → Result A Status → Type 0
+LineWrites before after frames (Ok u) = after ≡ counted (length frames) before
+LineWrites before after frames (Err WriteFault) = (1 ≤ length frames) × (after ≡ counted 1 before)
+LineWrites before after frames (Err NoMemory) = (n : ℕ) × (n ≤ length frames) × (after ≡ counted n before)
+LineWrites before after frames (Err Done) = ⊥
+LineWrites before after frames (Err Usage) = ⊥
+LineWrites before after frames (Err ReadFault) = ⊥
+LineWrites before after frames (Err (BadProject r)) = ⊥
+LineWrites before after frames (Err (BadScript r)) = ⊥
+LineWrites before after frames (Err (TooLarge file l)) = ⊥
+
+-- the play of a line in which no write failed leaves the count of failures
+abbrev pub LineSteadily : ℕ → ℕ → {A : Type 0} → Result A Status → Type 0
+LineSteadily before now (Ok u) = now ≡ before
+LineSteadily before now (Err WriteFault) = ⊤
+LineSteadily before now (Err NoMemory) = now ≡ before
+LineSteadily before now (Err Done) = ⊥
+LineSteadily before now (Err Usage) = ⊥
+LineSteadily before now (Err ReadFault) = ⊥
+LineSteadily before now (Err (BadProject r)) = ⊥
+LineSteadily before now (Err (BadScript r)) = ⊥
+LineSteadily before now (Err (TooLarge file l)) = ⊥
+
 -- what the play of all lines answers
-abbrev pub PlayedTo : Ending → Type 0 → Status → Type 0
+abbrev pub PlayedTo : RunEnding → Type 0 → Status → Type 0
 PlayedTo ending failed Done = ending ≡ whole
 PlayedTo ending failed (BadScript (line_refusal.UnknownLine line)) = ending ≡ bad_line line
 PlayedTo ending failed WriteFault = failed
@@ -59,3 +98,14 @@ PlayedTo ending failed Usage = ⊥
 PlayedTo ending failed ReadFault = ⊥
 PlayedTo ending failed (BadProject r) = ⊥
 PlayedTo ending failed (TooLarge file l) = ⊥
+
+-- the play of all lines leaves the count of failures where no write failed
+abbrev pub PlayedSteadily : ℕ → ℕ → Status → Type 0
+PlayedSteadily before now WriteFault = ⊤
+PlayedSteadily before now Done = now ≡ before
+PlayedSteadily before now (BadScript r) = now ≡ before
+PlayedSteadily before now NoMemory = now ≡ before
+PlayedSteadily before now Usage = ⊥
+PlayedSteadily before now ReadFault = ⊥
+PlayedSteadily before now (BadProject r) = ⊥
+PlayedSteadily before now (TooLarge file l) = ⊥

@@ -1,9 +1,9 @@
 -- What the command tells of a status: a text and an exit number.
-use Rattle.std.specs.Prelude.{ℕ, List, ◌++◌, codes}
+use Rattle.std.specs.Prelude.{ℕ, List, ◌++◌, Option, None, Some, codes}
 use Rattle.std.specs.Fmt.{decimal}
 use Rattle.project_json.specs.declared.refusal.JsonRefusal.TheVariants as json_refusal
 use Rattle.player.specs.declared.status.Refusal.TheVariants as refusal
-use Rattle.player.specs.declared.status.LineRefusal.TheVariants as line_refusal
+use Rattle.player.specs.declared.script.LineRefusal.TheVariants as line_refusal
 use Rattle.player.specs.declared.status.Status.{Status}
 use Rattle.player.specs.declared.status.Status.TheVariants.{Done, Usage, ReadFault, WriteFault, BadProject, BadScript, TooLarge, NoMemory}
 
@@ -35,3 +35,8 @@ exit_of_status (BadProject (refusal.Shape path)) = 4
 exit_of_status (BadScript r) = 5
 exit_of_status (TooLarge file limit) = 8
 exit_of_status NoMemory = 9
+
+-- a helper of private functions: a name, and the digits of a line's number behind it where there is one
+abbrev pub told_text : List ℕ → Option ℕ → List ℕ
+told_text name None = name
+told_text name (Some line) = name ++ decimal line

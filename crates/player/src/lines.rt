@@ -1,12 +1,14 @@
 //! The lines of an input script.
 
-ghost use Rattle.std.specs.Prelude.{◌≡◌, ◌<◌, ◌*◌, ◌^◌, ◌==◌, [], ◌∷◌, length, IfNone, IfSome, codes};
-ghost use Rattle.std.specs.List.{position_or_len};
+ghost use Rattle.std.specs.Prelude.{◌≡◌, ◌<◌, ◌==◌, [], ◌∷◌, length, IfNone, IfSome, codes};
+ghost use Rattle.std.specs.List.{position_from, position_or_len};
 ghost use Rattle.player.specs.Lines.{lines_of, budget_by, line_by, text_line, line_of};
 ghost use Rattle.player.specs.GoodLine.{IsGood};
-ghost use Rattle.player.specs.Words.{pieces, whole_up_to};
+ghost use Rattle.player.specs.Limits.{clock_limit, passes_limit, warp_limit};
+ghost use Rattle.player.specs.WholeNumbers.{pieces, whole_up_to};
 
-use crate::words::{cut, whole_up_to};
+use crate::pieces::cut;
+use crate::whole_numbers::whole_up_to;
 use sequencer::Budget;
 
 /// A good line of a script.
@@ -25,7 +27,7 @@ const MAX_WARP: u64 = 1_000_000;
 
 // A frame line of these three words.
 fn frame_line(last: u64, clock: &str, passes: &str, warp: &str) -> Option<Line>
-    ensures line { result ≡ budget_by last (whole_up_to (9 * 10 ^ 12) clock.now) (whole_up_to 10000 passes.now) (whole_up_to 1000000 warp.now) }
+    ensures line { result ≡ budget_by last (whole_up_to clock_limit clock.now) (whole_up_to passes_limit passes.now) (whole_up_to warp_limit warp.now) }
     ensures good { IfSome result (IsGood last) }
 {
     let clock = whole_up_to(clock, MAX_CLOCK)?;
@@ -97,21 +99,27 @@ pub fn line_of(last: u64, bytes: &[u8]) -> Option<Line>
     }
 }
 
+// The place of the first line end.
+fn line_end(script: &[u8]) -> Option<usize>
+    ensures value { result ≡ position_from (λ b. b == 10) 0 script.now }
+    ensures within { IfSome result (λ at. at < length script.now) }
+{
+    script.iter().position(|byte| *byte == b'\n')
+}
+
 // How many bytes stand before the first line end, or in all.
 fn line_len(script: &[u8]) -> usize
     ensures { result ≡ position_or_len (λ b. b == 10) script.now }
 {
-    for (at, byte) in script.iter().enumerate() {
-        if *byte == b'\n' {
-            return at;
-        }
+    match line_end(script) {
+        Some(at) => at,
+        None => script.len(),
     }
-    script.len()
 }
 
 /// The first line of a script, and the bytes of the lines after it; `None` at the end. A line ends
 /// by byte 10, and the last line may lack it.
-pub fn next_line(script: &[u8]) -> Option<(&[u8], &[u8])>
+pub fn first_line(script: &[u8]) -> Option<(&[u8], &[u8])>
     ensures end { IfNone result (script.now ≡ []) }
     ensures line { IfSome result (λ x. lines_of script.now ≡ x.0.now ∷ lines_of x.1.now) }
     ensures shorter { IfSome result (λ x. length x.1.now < length script.now) }

@@ -1,14 +1,18 @@
 //! Plays Scratch 3 projects: the same bytes for the same files, on every machine.
 #![tactic(auto)]
 
+mod command;
 mod frame_text;
 mod lines;
+mod pieces;
+mod script;
 mod status;
 mod top;
-mod words;
+mod whole_numbers;
 
-use status::{Status, exit_number, status_text};
-use std::alloc::{AllocError, Global};
+use itoa::Buffer;
+use status::{Status, exit_number, told};
+use std::alloc::AllocError;
 use std::env;
 use std::io::{Eprint, ErrorKind};
 use std::process::ExitCode;
@@ -55,19 +59,24 @@ fn run(rt: &HostRuntime) -> Status {
     }
 }
 
-// Tells the status on the standard error, unless all went well.
-fn tell(alloc: Global, rt: &impl Eprint, status: &Status) {
+// Tells the status on the standard error, unless all went well. It takes no memory, so that want of memory is told too.
+fn tell(rt: &impl Eprint, status: &Status) {
     if matches!(status, Status::Done) {
         return;
     }
-    if let Ok(text) = status_text(alloc, status) {
-        let _ = rt.eprintln(text.as_str());
-    }
+    let (name, line) = told(status);
+    let mut buffer = Buffer::new();
+    let digits = match line {
+        Some(line) => buffer.format(line),
+        None => "",
+    };
+    let _ = rt.eprint(name);
+    let _ = rt.eprintln(digits);
 }
 
 fn main(rt: HostRuntime) -> ExitCode {
     let status = run(&rt);
-    tell(rt.alloc(), &rt, &status);
+    tell(&rt, &status);
     ExitCode::from(exit_number(&status))
 }
 

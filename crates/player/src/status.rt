@@ -1,8 +1,10 @@
 //! How a call ends.
 
 ghost use Rattle.std.specs.Prelude.{◌≡◌, IfOk, string_bytes};
-ghost use Rattle.player.specs.Told.{text_of_status, exit_of_status};
+ghost use Rattle.player.specs.Told.{told_text, text_of_status, exit_of_status};
 
+use crate::script::LineRefusal;
+use itoa::Buffer;
 use project_json::{JsonRefusal, Text};
 use std::alloc::{AllocError, Global};
 
@@ -22,13 +24,6 @@ pub enum Refusal {
     /// P2: a member that is read has not its shape. The path is empty where the whole document is
     /// meant.
     Shape { path: Text },
-}
-
-/// Why a line of a script is refused. Lines count from 1.
-#[derive(Clone, Copy, Debug, PartialEq, Eq)]
-pub enum LineRefusal {
-    /// 2: the line is none of those that are known.
-    UnknownLine { line: u64 },
 }
 
 /// How a call of `play` ends.
@@ -52,30 +47,45 @@ pub enum Status {
     NoMemory,
 }
 
-/// The text that tells a status: its name, after a refused project the number of the refusal, and
-/// after a refused line the number of the refusal and the line.
-pub fn status_text(alloc: Global, status: &Status) -> Result<String, AllocError>
-    ensures { IfOk result (λ text. string_bytes text ≡ text_of_status status.now) }
+/// What tells a status: its name, after a refused project with the number of the refusal, and after a refused line with
+/// the number of the refusal and a space, before the line's number.
+pub fn told(status: &Status) -> (&'static str, Option<u64>)
+    ensures { told_text result.0.now result.1 ≡ text_of_status status.now }
 {
     match status {
-        Status::Done => String::from_str(alloc, "Done"),
-        Status::Usage => String::from_str(alloc, "Usage"),
-        Status::ReadFault => String::from_str(alloc, "ReadFault"),
-        Status::WriteFault => String::from_str(alloc, "WriteFault"),
+        Status::Done => ("Done", None),
+        Status::Usage => ("Usage", None),
+        Status::ReadFault => ("ReadFault", None),
+        Status::WriteFault => ("WriteFault", None),
         Status::BadProject(
             Refusal::Json(
                 JsonRefusal::NotUtf8 { .. }
                 | JsonRefusal::Syntax { .. }
                 | JsonRefusal::TooDeep { .. },
             ),
-        ) => String::from_str(alloc, "BadProject P1"),
-        Status::BadProject(Refusal::Shape { .. }) => String::from_str(alloc, "BadProject P2"),
-        Status::BadScript(LineRefusal::UnknownLine { line }) => {
-            format!(in alloc; "BadScript 2 {line}")
-        }
-        Status::TooLarge { .. } => String::from_str(alloc, "TooLarge"),
+        ) => ("BadProject P1", None),
+        Status::BadProject(Refusal::Shape { .. }) => ("BadProject P2", None),
+        Status::BadScript(LineRefusal::UnknownLine { line }) => ("BadScript 2 ", Some(*line)),
+        Status::TooLarge { .. } => ("TooLarge", None),
         Status::NoMemory | Status::BadProject(Refusal::Json(JsonRefusal::NoMemory)) => {
-            String::from_str(alloc, "NoMemory")
+            ("NoMemory", None)
+        }
+    }
+}
+
+/// The text that tells a status: its name, after a refused project the number of the refusal, and
+/// after a refused line the number of the refusal and the line.
+pub fn status_text(alloc: Global, status: &Status) -> Result<String, AllocError>
+    ensures { IfOk result (λ text. string_bytes text ≡ text_of_status status.now) }
+{
+    let (name, line) = told(status);
+    let mut text = String::from_str(alloc, name)?;
+    match line {
+        None => Ok(text),
+        Some(line) => {
+            let mut buffer = Buffer::new();
+            text.push_str(buffer.format(line))?;
+            Ok(text)
         }
     }
 }

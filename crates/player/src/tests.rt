@@ -1,4 +1,5 @@
-use crate::status::{LineRefusal, Refusal, Status, Which, exit_number, status_text};
+use crate::script::LineRefusal;
+use crate::status::{Refusal, Status, Which, exit_number, status_text};
 use crate::top::play;
 use project_json::JsonRefusal;
 use std::alloc::{AllocError, Global};
@@ -39,12 +40,17 @@ fn shelf(alloc: Global, project: &[u8], script: &str) -> Result<MemoryShelf, All
     Ok(MemoryShelf::new(alloc, files, Numbers::new(alloc)))
 }
 
-fn words(alloc: Global, script: &str) -> Result<Vec<String>, AllocError> {
+// A line of words, with a single space between each two.
+fn words_of(alloc: Global, line: &str) -> Result<Vec<String>, AllocError> {
     let mut words = Vec::new(alloc);
-    for word in ["play", "p", script, "1", "-"] {
+    for word in line.split(' ') {
         words.push(String::from_str(alloc, word)?)?;
     }
     Ok(words)
+}
+
+fn words(alloc: Global, script: &str) -> Result<Vec<String>, AllocError> {
+    words_of(alloc, format!(in alloc; "play p {script} 1 -")?.as_str())
 }
 
 // What `play` answers for the project and the script, and what it writes.
@@ -55,11 +61,15 @@ fn played(alloc: Global, project: &[u8], script: &str) -> Result<(Status, Steady
     Ok((status, out))
 }
 
-// The first frame of the base file, with this value of n.
-fn frame(alloc: Global, value: &str) -> Result<String, AllocError> {
+// A frame of the base file, with this value of n.
+fn frame_at(alloc: Global, number: u32, clock: u32, value: &str) -> Result<String, AllocError> {
     format!(in alloc;
-        "frame 1 clock 0 words 0\nstage 1 \"b1\"\nsprite 1 \"Cat\" original shown 0 0 90 100 1 \"c1\" \"all around\"\nmonitor \"n\" \"{value}\"\nend\n"
+        "frame {number} clock {clock} words 0\nstage 1 \"b1\"\nsprite 1 \"Cat\" original shown 0 0 90 100 1 \"c1\" \"all around\"\nmonitor \"n\" \"{value}\"\nend\n"
     )
+}
+
+fn frame(alloc: Global, value: &str) -> Result<String, AllocError> {
+    frame_at(alloc, 1, 0, value)
 }
 
 #[test]
@@ -116,7 +126,7 @@ fn a_write_that_fails(rt: HostRuntime) -> Result<(), Fail> {
     let base = project(alloc, "{}", "{}")?;
     let mut shelf = shelf(alloc, base.as_bytes(), "frame 0 1 0\nframe 0 1 0\n")?;
     let mut fails = Pairs::new(alloc);
-    fails.push(1, 5)?;
+    fails.push((1, 5))?;
     let mut out = MemorySink::new(alloc, fails);
     let status = play(alloc, &words(alloc, "s")?, &mut shelf, &mut out);
     assert!(rt; matches!(status, Status::WriteFault));
@@ -179,17 +189,190 @@ fn projects_that_are_refused(rt: HostRuntime) -> Result<(), Fail> {
     Ok(())
 }
 
+// The project with blocks, and one text in it replaced by another.
+fn changed(alloc: Global, old: &str, new: &str) -> Result<String, AllocError> {
+    let base = project(alloc, "{}", SET_AND_CHANGE)?;
+    match base.as_str().split_once(old) {
+        Some((before, after)) => format!(in alloc; "{before}{new}{after}"),
+        None => String::from_str(alloc, "the text to replace is not there"),
+    }
+}
+
+#[test]
+fn each_rule_of_the_first_form_refuses(rt: HostRuntime) -> Result<(), Fail> {
+    let alloc = rt.alloc();
+    let changes = [
+        // Shapes, and one stage.
+        ("\"volume\":100", "\"volume\":\"100\""),
+        ("{\"isStage\":false", "{\"isStage\":true"),
+        // Numbers in their ranges.
+        ("\"x\":0", "\"x\":12345"),
+        ("\"size\":100", "\"size\":-1"),
+        ("\"direction\":90", "\"direction\":181"),
+        ("\"currentCostume\":0", "\"currentCostume\":1"),
+        // Values of variables; no variable of a sprite, and empty lists.
+        ("[\"n\",0]", "[\"n\",1.5]"),
+        ("[\"n\",0]", "[\"n\",\"hello\"]"),
+        (
+            "\"Cat\",\"variables\":{}",
+            "\"Cat\",\"variables\":{\"w\":[\"m\",0]}",
+        ),
+        ("[\"l\",[]]", "[\"l\",[1]]"),
+        // Monitors of variables of the stage.
+        (
+            "\"opcode\":\"data_variable\"",
+            "\"opcode\":\"sensing_timer\"",
+        ),
+        ("\"spriteName\":null", "\"spriteName\":\"Cat\""),
+        // Blocks that are known.
+        ("data_changevariableby", "control_wait"),
+        // Links to later blocks.
+        ("\"next\":null", "\"next\":\"a2\""),
+        ("\"next\":\"a2\"", "\"next\":\"a9\""),
+        // Values and variables of blocks.
+        ("[1,[4,\"5\"]]", "[3,[12,\"n\",\"v\"]]"),
+        ("[\"n\",\"v\"]", "[\"n\",\"w\"]"),
+    ];
+    for (old, new) in changes {
+        let text = changed(alloc, old, new)?;
+        let (status, out) = played(alloc, text.as_bytes(), "flag\nframe 0 1 0\n")?;
+        assert!(rt; matches!(status, Status::BadProject(Refusal::Shape { .. })));
+        assert_eq!(rt; status_text(alloc, &status)?.as_str(), "BadProject P2");
+        assert_eq!(rt; out.written().len(), 0);
+    }
+    let (status, _) = played(alloc, changed(alloc, "0]", "0]")?.as_bytes(), "")?;
+    assert!(rt; matches!(status, Status::Done));
+    Ok(())
+}
+
+#[test]
+fn lines_that_are_refused(rt: HostRuntime) -> Result<(), Fail> {
+    let alloc = rt.alloc();
+    let base = project(alloc, "{}", "{}")?;
+    let lines = [
+        "stop",
+        "Flag",
+        "flag ",
+        " flag",
+        "flag now",
+        "frame",
+        "frame 9 1",
+        "frame 9 1 0 0",
+        "frame  9 1 0",
+        "frame 9 1 0 ",
+        "frame 09 1 0",
+        "frame +9 1 0",
+        "frame -9 1 0",
+        "frame 9.0 1 0",
+        "frame 9000000000001 1 0",
+        "frame 9 0 0",
+        "frame 9 10001 0",
+        "frame 9 1 1000001",
+        "frame 99999999999999999999 1 0",
+        "frame 8 1 0",
+        "frame 9 1 0\r",
+    ];
+    for line in lines {
+        let script = format!(in alloc; "# one\nframe 9 10000 1000000\n\n{line}\nflag\n")?;
+        let (status, out) = played(alloc, base.as_bytes(), script.as_str())?;
+        assert_eq!(rt; status_text(alloc, &status)?.as_str(), "BadScript 2 4");
+        assert_eq!(rt; out.written(), frame_at(alloc, 1, 9, "0")?.as_bytes());
+    }
+    Ok(())
+}
+
 #[test]
 fn words_that_are_no_form(rt: HostRuntime) -> Result<(), Fail> {
     let alloc = rt.alloc();
     let base = project(alloc, "{}", "{}")?;
-    let mut shelf = shelf(alloc, base.as_bytes(), "")?;
-    let mut out = SteadySink::new(alloc);
-    let mut short = Vec::new(alloc);
-    short.push(String::from_str(alloc, "play")?)?;
-    short.push(String::from_str(alloc, "p")?)?;
-    let status = play(alloc, &short, &mut shelf, &mut out);
-    assert!(rt; matches!(status, Status::Usage));
+    let lines = [
+        "",
+        "play",
+        "play p s 1",
+        "play p s 1 - -",
+        "Play p s 1 -",
+        "resume p s 1 -",
+        "play p s 1 save",
+        "play p s 01 -",
+        "play p s -1 -",
+        "play p s +1 -",
+        "play p s 1.0 -",
+        "play p s  -",
+        "play p s 18446744073709551616 -",
+        "check p",
+    ];
+    for line in lines {
+        let mut shelf = shelf(alloc, base.as_bytes(), "frame 0 1 0\n")?;
+        let mut out = SteadySink::new(alloc);
+        let status = play(alloc, &words_of(alloc, line)?, &mut shelf, &mut out);
+        assert!(rt; matches!(status, Status::Usage));
+        assert_eq!(rt; out.written().len(), 0);
+    }
+    let mut none = shelf(alloc, base.as_bytes(), "frame 0 1 0\n")?;
+    let largest = words_of(alloc, "play p s 18446744073709551615 -")?;
+    let status = play(alloc, &largest, &mut none, &mut SteadySink::new(alloc));
+    assert!(rt; matches!(status, Status::Done));
+    Ok(())
+}
+
+#[test]
+fn a_name_keeps_the_blanks_at_its_ends(rt: HostRuntime) -> Result<(), Fail> {
+    let alloc = rt.alloc();
+    let base = project(alloc, "{}", "{}")?;
+    let mut files = NamedBytes::new(alloc);
+    files.push(" p ", base.as_bytes())?;
+    files.push("s", b"frame 0 1 0\n")?;
+    let mut shelf = MemoryShelf::new(alloc, files, Numbers::new(alloc));
+    let mut words = words(alloc, "s")?;
+    let status = play(alloc, &words, &mut shelf, &mut SteadySink::new(alloc));
+    assert!(rt; matches!(status, Status::ReadFault));
+    words[1] = String::from_str(alloc, " p ")?;
+    let status = play(alloc, &words, &mut shelf, &mut SteadySink::new(alloc));
+    assert!(rt; matches!(status, Status::Done));
+    Ok(())
+}
+
+#[test]
+fn a_thousand_frames_and_flags(rt: HostRuntime) -> Result<(), Fail> {
+    let alloc = rt.alloc();
+    let base = project(alloc, "{}", SET_AND_CHANGE)?;
+    let mut script = String::new(alloc);
+    let mut expected = String::new(alloc);
+    for number in 1..1001u32 {
+        script.push_str(format!(in alloc; "flag\nframe {number} 1 0\n")?.as_str())?;
+        expected.push_str(frame_at(alloc, number, number, "7")?.as_str())?;
+    }
+    let (status, out) = played(alloc, base.as_bytes(), script.as_str())?;
+    assert!(rt; matches!(status, Status::Done));
+    assert_eq!(rt; out.written(), expected.as_bytes());
+    Ok(())
+}
+
+#[test]
+fn each_file_is_fetched_once_and_each_frame_is_one_write(rt: HostRuntime) -> Result<(), Fail> {
+    let alloc = rt.alloc();
+    let base = project(alloc, "{}", "{}")?;
+    for failing in 0..3u64 {
+        let mut files = NamedBytes::new(alloc);
+        files.push("p", base.as_bytes())?;
+        files.push("s", b"frame 0 1 0\nflag\nframe 0 1 0\n")?;
+        let mut calls = Numbers::new(alloc);
+        calls.push(failing)?;
+        let mut shelf = MemoryShelf::new(alloc, files, calls);
+        let status = play(
+            alloc,
+            &words(alloc, "s")?,
+            &mut shelf,
+            &mut SteadySink::new(alloc),
+        );
+        assert_eq!(rt; matches!(status, Status::ReadFault), failing < 2);
+        let mut shelf = self::shelf(alloc, base.as_bytes(), "frame 0 1 0\nflag\nframe 0 1 0\n")?;
+        let mut writes = Pairs::new(alloc);
+        writes.push((failing, 0))?;
+        let mut out = MemorySink::new(alloc, writes);
+        let status = play(alloc, &words(alloc, "s")?, &mut shelf, &mut out);
+        assert_eq!(rt; matches!(status, Status::WriteFault), failing < 2);
+    }
     Ok(())
 }
 

@@ -1,24 +1,25 @@
 //! The top call.
 
-ghost use Rattle.std.specs.Prelude.{◌≡◌, ◌≢◌, ◌⊎◌, ◌↔◌, ℕ, ◌+◌, ◌^◌, ◌*◌, ◌<◌, ◌≤◌, ◌++◌, [], length, map, string_bytes, Some, None, OnOk, IfOk, IfSome, List, Err};
+ghost use Rattle.std.specs.Prelude.{◌≡◌, ◌≢◌, ◌⊎◌, ◌↔◌, ℕ, ◌+◌, ◌^◌, ◌<◌, ◌≤◌, [], length, map, string_bytes, Some, None, OnOk, IfSome, List, Err};
 ghost use Rattle.std.specs.FinMap.{get};
-ghost use Rattle.sv_channels.specs.Counts.{Rose, NoneFell};
-ghost use Rattle.sv_channels.specs.Sink.{Gained};
+ghost use Rattle.sv_channels.specs.Counts.{next_count, Rose, NoneFell};
 ghost use Rattle.project_json.specs.Refusal.{IsCause};
 ghost use Rattle.sequencer.specs.Frame.{first_world};
 ghost use Rattle.sequencer.specs.FirstRun.{world_of, IsRunOf};
-ghost use Rattle.player.specs.Words.{form_of, Form as FormOf};
+ghost use Rattle.player.specs.Limits.{script_limit, nesting_limit};
+ghost use Rattle.player.specs.Command.{Form as FormOf, play as play_of, command_of};
 ghost use Rattle.player.specs.Lines.{lines_of};
-ghost use Rattle.player.specs.FormView.{form_view};
 ghost use Rattle.player.specs.Output.{played, world_after, frames_after};
-ghost use Rattle.player.specs.Promise.{FetchFailed, FaultCause, AnswerCause, Tells, Wrote, IsSilent, Promised, Loading, LoadsFile, outcome_of};
+ghost use Rattle.player.specs.Promise.{FetchFailed, FaultCause, AnswerCause, HidesNothing, Tells, Wrote, IsSilent, Fetches, Writes, Promised, Loading, LoadsFile, outcome_of};
 ghost use Rattle.player.specs.GoodLine.{IsGood};
-ghost use Rattle.player.specs.Stages.{Fetched, Loaded, LineWrote, PlayedTo};
+ghost use Rattle.player.specs.Script.{clock_after};
+ghost use Rattle.player.specs.Stages.{Fetched, FetchedSteadily, Loaded, LineWrote, LineWrites, LineSteadily, PlayedTo, PlayedSteadily};
 
+use crate::command::{Command, command_of};
 use crate::frame_text::frame_text;
-use crate::lines::{Line, line_of, next_line};
-use crate::status::{LineRefusal, Refusal, Status, Which};
-use crate::words::{Form, form_of};
+use crate::lines::Line;
+use crate::script::Script;
+use crate::status::{Refusal, Status, Which};
 use block_table::{FirstProject, FirstRefusal, first_form};
 use project_json::{JsonRefusal, Text, read};
 use sequencer::{Budget, FirstRun};
@@ -37,9 +38,11 @@ fn fetch<H: Shelf>(
     which: Which,
     limit: u64,
 ) -> Result<Vec<u8>, Status>
-    ensures answer { Fetched (H.held shelf.old) name.now which limit (Rose (H.fetch_faults shelf.old name.now) (H.fetch_faults shelf.new name.now)) (λ v. v.items) result }
+    ensures answer { Fetched (H.held shelf.old) name.now which limit (Rose (H.fetch_faults shelf.old name.now) (H.fetch_faults shelf.new name.now)) (Rose (H.wants shelf.old) (H.wants shelf.new)) (λ v. v.items) result }
     ensures held { H.held shelf.new ≡ H.held shelf.old }
     ensures fetch_faults { NoneFell (H.fetch_faults shelf.old) (H.fetch_faults shelf.new) }
+    ensures steady { FetchedSteadily (H.fetch_faults shelf.old) (H.fetch_faults shelf.new) result }
+    ensures calls { H.calls shelf.new ≡ next_count (H.calls shelf.old) }
 {
     match shelf.fetch(alloc, name, limit) {
         Ok(bytes) => Ok(bytes),
@@ -51,7 +54,7 @@ fn fetch<H: Shelf>(
 
 // How a call ends where the bytes of a project are refused.
 fn unread(refusal: JsonRefusal) -> Status
-    ensures { (bytes : List ℕ) → IsCause 256 bytes refusal → Loaded bytes (Err result) }
+    ensures { (bytes : List ℕ) → IsCause nesting_limit bytes refusal → Loaded bytes (Err result) }
 {
     match refusal {
         JsonRefusal::NoMemory => Status::NoMemory,
@@ -93,8 +96,11 @@ fn play_frame<K: Sink>(
     ensures fits { OnOk result (IsRunOf project.now run.new) }
     ensures world { OnOk result (world_of project.now run.new ≡ world_after project.now (world_of project.now run.old) (Line.Frame budget)) }
     ensures number { OnOk result (run.new.frame ≡ run.old.frame + 1) }
+    ensures clock { OnOk result (run.new.clock ≡ budget.clock) }
     ensures wrote { LineWrote (K.written out.old) (K.written out.new) (frames_after project.now (world_of project.now run.old) (Line.Frame budget)) (Rose (K.faults out.old) (K.faults out.new)) result }
     ensures faults { K.faults out.old ≤ K.faults out.new }
+    ensures steady { LineSteadily (K.faults out.old) (K.faults out.new) result }
+    ensures writes { LineWrites (K.calls out.old) (K.calls out.new) (frames_after project.now (world_of project.now run.old) (Line.Frame budget)) result }
 {
     let Ok(()) = run.frame(project, budget.clock) else {
         return Err(Status::NoMemory);
@@ -123,8 +129,11 @@ fn play_line<K: Sink>(
     ensures fits { OnOk result (IsRunOf project.now run.new) }
     ensures world { OnOk result (world_of project.now run.new ≡ world_after project.now (world_of project.now run.old) line) }
     ensures number { OnOk result (run.new.frame ≤ run.old.frame + 1) }
+    ensures clock { OnOk result (run.new.clock ≡ clock_after run.old.clock line) }
     ensures wrote { LineWrote (K.written out.old) (K.written out.new) (frames_after project.now (world_of project.now run.old) line) (Rose (K.faults out.old) (K.faults out.new)) result }
     ensures faults { K.faults out.old ≤ K.faults out.new }
+    ensures steady { LineSteadily (K.faults out.old) (K.faults out.new) result }
+    ensures writes { LineWrites (K.calls out.old) (K.calls out.new) (frames_after project.now (world_of project.now run.old) line) result }
 {
     match line {
         Line::Nothing => Ok(()),
@@ -138,40 +147,51 @@ fn play_line<K: Sink>(
 
 // Plays the lines of a script, from the first world on.
 fn play_lines<K: Sink>(alloc: Global, project: &FirstProject, script: &[u8], out: &mut K) -> Status
-    requires { length script.now ≤ 16777216 }
+    requires { length script.now ≤ script_limit }
     ensures cause { PlayedTo (played project.now 1 (first_world project.now) (lines_of script.now)).ending (Rose (K.faults out.old) (K.faults out.new)) result }
     ensures bytes { Wrote (K.written out.old) (K.written out.new) (played project.now 1 (first_world project.now) (lines_of script.now)).frames result }
     ensures faults { K.faults out.old ≤ K.faults out.new }
+    ensures steady { PlayedSteadily (K.faults out.old) (K.faults out.new) result }
+    ensures writes { Writes (K.calls out.old) (K.calls out.new) (played project.now 1 (first_world project.now) (lines_of script.now)).frames result }
 {
     let Ok(mut run) = FirstRun::open(alloc, project) else {
         return Status::NoMemory;
     };
-    let mut rest = script;
-    let mut number = 0u64;
-    while let Some((bytes, after)) = next_line(rest) {
-        number += 1;
-        rest = after;
-        let Some(line) = line_of(run.clock(), bytes) else {
-            return Status::BadScript(LineRefusal::UnknownLine { line: number });
+    let mut reader = Script::new(script, run.clock());
+    'lines: loop {
+        let next = match reader.next_line() {
+            Ok(next) => next,
+            Err(refusal) => return Status::BadScript(refusal),
+        };
+        let Some(line) = next else {
+            return Status::Done;
         };
         match play_line(alloc, project, &mut run, line, out) {
             Ok(()) => {}
             Err(status) => return status,
         }
     }
-    Status::Done
 }
 
-// Fetches the files that the form names, loads the project and plays the script.
-fn run<H: Shelf, K: Sink>(alloc: Global, form: &Form<'_>, shelf: &mut H, out: &mut K) -> Status
-    ensures fault { FaultCause (FetchFailed (H.fetch_faults shelf.old) (H.fetch_faults shelf.new) (form_view form.now)) (Rose (K.faults out.old) (K.faults out.new)) result }
-    ensures exact { IfSome (H.held shelf.old) (λ files. (loading : Loading) → LoadsFile (get files form.now.project.now) loading → AnswerCause (outcome_of files (form_view form.now) loading).ending result) }
-    ensures bytes { IfSome (H.held shelf.old) (λ files. (loading : Loading) → LoadsFile (get files form.now.project.now) loading → Wrote (K.written out.old) (K.written out.new) (outcome_of files (form_view form.now) loading).frames result) }
+// Fetches the two files, loads the project and plays the script.
+fn run<H: Shelf, K: Sink>(
+    alloc: Global,
+    project: &str,
+    script: &str,
+    shelf: &mut H,
+    out: &mut K,
+) -> Status
+    ensures fault { let form : FormOf = record { project = project.now; script = script.now } in FaultCause (FetchFailed (H.fetch_faults shelf.old) (H.fetch_faults shelf.new) form) (Rose (K.faults out.old) (K.faults out.new)) result }
+    ensures exact { let form : FormOf = record { project = project.now; script = script.now } in IfSome (H.held shelf.old) (λ files. (loading : Loading) → LoadsFile (get files form.project) loading → AnswerCause (Rose (H.fetch_faults shelf.old form.project) (H.fetch_faults shelf.new form.project)) (Rose (H.wants shelf.old) (H.wants shelf.new)) (outcome_of files form loading).ending result) }
+    ensures bytes { let form : FormOf = record { project = project.now; script = script.now } in IfSome (H.held shelf.old) (λ files. (loading : Loading) → LoadsFile (get files form.project) loading → Wrote (K.written out.old) (K.written out.new) (outcome_of files form loading).frames result) }
     ensures silent { IsSilent (K.written out.old) (K.written out.new) result }
     ensures held { H.held shelf.new ≡ H.held shelf.old }
     ensures no_usage { result ≢ Status.Usage }
+    ensures honest { HidesNothing (H.fetch_faults shelf.old) (H.fetch_faults shelf.new) (K.faults out.old) (K.faults out.new) result }
+    ensures fetches { Fetches (H.calls shelf.old) (H.calls shelf.new) result }
+    ensures writes { let form : FormOf = record { project = project.now; script = script.now } in IfSome (H.held shelf.old) (λ files. (loading : Loading) → LoadsFile (get files form.project) loading → Writes (K.calls out.old) (K.calls out.new) (outcome_of files form loading).frames result) }
 {
-    let project = match fetch(alloc, shelf, form.project, Which::Project, PROJECT_LIMIT) {
+    let project = match fetch(alloc, shelf, project, Which::Project, PROJECT_LIMIT) {
         Ok(bytes) => bytes,
         Err(status) => return status,
     };
@@ -179,7 +199,7 @@ fn run<H: Shelf, K: Sink>(alloc: Global, form: &Form<'_>, shelf: &mut H, out: &m
         Ok(project) => project,
         Err(status) => return status,
     };
-    let script = match fetch(alloc, shelf, form.script, Which::Script, SCRIPT_LIMIT) {
+    let script = match fetch(alloc, shelf, script, Which::Script, SCRIPT_LIMIT) {
         Ok(bytes) => bytes,
         Err(status) => return status,
     };
@@ -198,28 +218,35 @@ pub fn play<H: Shelf, K: Sink>(
     out: &mut K,
 ) -> Status
     // Usage exactly where the words have no form.
-    ensures usage { (result ≡ Status.Usage) ↔ (form_of (map string_bytes words.now) ≡ None) }
+    ensures usage { (result ≡ Status.Usage) ↔ (command_of (map string_bytes words.now) ≡ None) }
 
     // A fault only where its count rose.
-    ensures cause { (form : FormOf) → form_of (map string_bytes words.now) ≡ Some form → FaultCause (FetchFailed (H.fetch_faults shelf.old) (H.fetch_faults shelf.new) form) (Rose (K.faults out.old) (K.faults out.new)) result }
+    ensures cause { (form : FormOf) → command_of (map string_bytes words.now) ≡ Some (play_of form) → FaultCause (FetchFailed (H.fetch_faults shelf.old) (H.fetch_faults shelf.new) form) (Rose (K.faults out.old) (K.faults out.new)) result }
 
-    // Every other status but want of memory exactly where the outcome ends so.
-    ensures exact { Promised (H.held shelf.old) (map string_bytes words.now) (λ form o. AnswerCause o.ending result) }
+    // Every other status but want of memory exactly where the outcome ends so; a read fault and want of memory no later
+    // in the order of work than they may come.
+    ensures exact { Promised (H.held shelf.old) (map string_bytes words.now) (λ form o.
+        AnswerCause (Rose (H.fetch_faults shelf.old form.project) (H.fetch_faults shelf.new form.project)) (Rose (H.wants shelf.old) (H.wants shelf.new)) o.ending result) }
 
     // Where no count rose, the answer tells the outcome's ending, or memory ran out.
     ensures complete { Promised (H.held shelf.old) (map string_bytes words.now) (λ form o.
         ¬ FetchFailed (H.fetch_faults shelf.old) (H.fetch_faults shelf.new) form → ¬ Rose (K.faults out.old) (K.faults out.new)
         → Tells result o.ending ⊎ (result ≡ Status.NoMemory)) }
 
-    // What was written.
+    // No failure is told as another status.
+    ensures honest { HidesNothing (H.fetch_faults shelf.old) (H.fetch_faults shelf.new) (K.faults out.old) (K.faults out.new) result }
+
+    // What was written, and by how many writes.
     ensures bytes { Promised (H.held shelf.old) (map string_bytes words.now) (λ form o. Wrote (K.written out.old) (K.written out.new) o.frames result) }
+    ensures writes { Promised (H.held shelf.old) (map string_bytes words.now) (λ form o. Writes (K.calls out.old) (K.calls out.new) o.frames result) }
     ensures silent { IsSilent (K.written out.old) (K.written out.new) result }
 
-    // The shelf holds what it held.
+    // The shelf holds what it held, and each file was fetched once at most.
     ensures held { H.held shelf.new ≡ H.held shelf.old }
+    ensures fetches { Fetches (H.calls shelf.old) (H.calls shelf.new) result }
 {
-    match form_of(words) {
+    match command_of(words) {
         None => Status::Usage,
-        Some(form) => run(alloc, &form, shelf, out),
+        Some(Command::Play { project, script }) => run(alloc, project, script, shelf, out),
     }
 }

@@ -1,3 +1,4 @@
 pub mod Gains
 pub mod Named
-pub mod Rows
+mod Rows
+pub mod Tallies

@@ -6,6 +6,7 @@ use Rattle.sv_channels.specs.Counts.{next_count, Rose}
 use Rattle.sv_channels.specs.Files.{files_of}
 use Rattle.sv_channels.specs.Memory.{within, fails_next, part_of}
 use Rattle.sv_channels.specs.Pairs.{second_of}
+use Rattle.sv_channels.specs.Tally.{no_failures}
 use Rattle.sv_channels.specs.declared.errors.FetchError.TheVariants as fetch
 
 -- a count rises by one, and stands still at its end
@@ -42,10 +43,10 @@ not_held : within 3 None ≡ Err fetch.Failed
 not_held = refl
 
 -- the calls 1 and 2 of a shelf are listed, and call 1 comes next
-listed : fails_next (record { files = empty; fails = 1 ∷ 2 ∷ []; calls = 1; failed_fetches = 0; failed_puts = 0 }) ≡ true
+listed : fails_next (record { files = empty; fails = 1 ∷ 2 ∷ []; calls = 1; failed_fetches = no_failures; failed_puts = no_failures; wants = 0 }) ≡ true
 listed = refl
 
-not_listed : fails_next (record { files = empty; fails = 1 ∷ 2 ∷ []; calls = 3; failed_fetches = 0; failed_puts = 0 }) ≡ false
+not_listed : fails_next (record { files = empty; fails = 1 ∷ 2 ∷ []; calls = 3; failed_fetches = no_failures; failed_puts = no_failures; wants = 0 }) ≡ false
 not_listed = refl
 
 -- of two pairs that begin alike the first counts

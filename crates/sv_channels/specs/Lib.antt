@@ -5,3 +5,4 @@ pub mod Memory
 pub mod Pairs
 pub mod Shelf
 pub mod Sink
+pub mod Tally

@@ -2,6 +2,7 @@
 use Rattle.std.specs.Prelude.{◌≡◌, ◌≢◌, ℕ, ◌<◌, ◌≤◌, List, length, Vec, Option, Some, IfSome, IsSomeAnd, Result, Ok, Err, ⊤}
 use Rattle.std.specs.FinMap.{get, insert}
 use Rattle.std.specs.declared.alloc.Global.{Global}
+use Rattle.sv_channels.specs.Counts.{next_count, NoneRose}
 use Rattle.sv_channels.specs.Files.{Files}
 use Rattle.sv_channels.specs.declared.errors.FetchError.{FetchError}
 use Rattle.sv_channels.specs.declared.errors.FetchError.TheVariants as fetch
@@ -25,6 +26,18 @@ FetchAnswer held name limit rose (Err fetch.Failed) = rose
 FetchAnswer held name limit rose (Err (fetch.TooLarge told)) = (told ≡ limit) × IsHeldAbove held name limit
 FetchAnswer held name limit rose (Err fetch.NoMemory) = ⊤
 
+-- What a fetch counts: a count of failed fetches rises only where it failed.
+abbrev pub FetchCounts : (List ℕ → ℕ) → (List ℕ → ℕ) → Result (Vec ℕ Global) FetchError → Type 0
+FetchCounts before now (Ok bytes) = NoneRose before now
+FetchCounts before now (Err fetch.Failed) = ⊤
+FetchCounts before now (Err (fetch.TooLarge told)) = NoneRose before now
+FetchCounts before now (Err fetch.NoMemory) = NoneRose before now
+
+-- how many calls have wanted memory, after a fetch
+abbrev pub wants_after_fetch : ℕ → Result (Vec ℕ Global) FetchError → ℕ
+wants_after_fetch wants (Err fetch.NoMemory) = next_count wants
+wants_after_fetch wants answer = wants
+
 -- the name holds the bytes, and all other names what they held
 abbrev pub Puts : Option Files → Option Files → List ℕ → List ℕ → Type 0
 Puts old new name bytes = IfSome old (λ files. new ≡ Some (insert files name bytes))
@@ -40,3 +53,14 @@ abbrev pub PutAnswer : Option Files → Option Files → List ℕ → List ℕ �
 PutAnswer old new name bytes rose (Ok _) = Puts old new name bytes
 PutAnswer old new name bytes rose (Err put.Failed) = rose × KeepsOthers old new name
 PutAnswer old new name bytes rose (Err put.NoMemory) = new ≡ old
+
+-- What a put counts: a count of failed puts rises only where it failed.
+abbrev pub PutCounts : (List ℕ → ℕ) → (List ℕ → ℕ) → Result Unit PutError → Type 0
+PutCounts before now (Ok _) = NoneRose before now
+PutCounts before now (Err put.Failed) = ⊤
+PutCounts before now (Err put.NoMemory) = NoneRose before now
+
+-- how many calls have wanted memory, after a put
+abbrev pub wants_after_put : ℕ → Result Unit PutError → ℕ
+wants_after_put wants (Err put.NoMemory) = next_count wants
+wants_after_put wants answer = wants

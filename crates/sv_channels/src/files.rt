@@ -1,9 +1,9 @@
 //! The files of the system.
 
 ghost use Rattle.std.specs.Prelude.{◌≡◌, ◌≢◌, ◌≤◌, None};
-ghost use Rattle.sv_channels.specs.Counts.{Rose};
+ghost use Rattle.sv_channels.specs.Counts.{next_count, Rose};
 ghost use Rattle.sv_channels.specs.Edges.{counts_after_fetch, counts_after_put};
-ghost use Rattle.sv_channels.specs.Shelf.{FetchAnswer, PutAnswer};
+ghost use Rattle.sv_channels.specs.Shelf.{FetchAnswer, PutAnswer, FetchCounts, wants_after_fetch, PutCounts, wants_after_put};
 
 use crate::transfer::{ReadStop, read_up_to, write_whole};
 use crate::{FetchError, PutError, Shelf};
@@ -19,6 +19,8 @@ pub struct FileShelf<R: Files + Clone + Drop> {
     rt: R,
     failed_fetches: u64,
     failed_puts: u64,
+    calls: u64,
+    wants: u64,
 }
 
 impl<R: Files + Clone + Drop> Model for FileShelf<R> {
@@ -26,18 +28,25 @@ impl<R: Files + Clone + Drop> Model for FileShelf<R> {
 
     ghost Value = { FileCounts };
 
-    ghost view = { λ s. record { fetches = s.failed_fetches; puts = s.failed_puts } };
+    ghost view = { λ s. record {
+      fetches = s.failed_fetches;
+      puts = s.failed_puts;
+      calls = s.calls;
+      wants = s.wants;
+    } };
 }
 
 impl<R: Files + Clone + Drop> FileShelf<R> {
-    /// The files that the runtime opens. No call has failed yet.
+    /// The files that the runtime opens. No call was made yet.
     pub fn new(rt: R) -> Self
-        ensures { result ≡ record { fetches = 0; puts = 0 } }
+        ensures { result ≡ record { fetches = 0; puts = 0; calls = 0; wants = 0 } }
     {
         FileShelf {
             rt,
             failed_fetches: 0,
             failed_puts: 0,
+            calls: 0,
+            wants: 0,
         }
     }
 
@@ -65,17 +74,28 @@ impl<R: Files + Clone + Drop> Shelf for FileShelf<R> {
 
     ghost put_faults = { λ s _. s.puts };
 
+    ghost calls = { λ s. s.calls };
+
+    ghost wants = { λ s. s.wants };
+
     fn fetch(&mut self, alloc: Global, name: &str, limit: u64) -> Result<Vec<u8>, FetchError>
         ensures answer { FetchAnswer None name.now limit (Rose self.old.fetches self.new.fetches) result }
         ensures fetch_faults { self.old.fetches ≤ self.new.fetches }
         ensures put_faults { self.old.puts ≤ self.new.puts }
+        ensures steady { FetchCounts (λ _. self.old.fetches) (λ _. self.new.fetches) result }
+        ensures calls { self.new.calls ≡ next_count self.old.calls }
+        ensures wants { self.new.wants ≡ wants_after_fetch self.old.wants result }
 
         ensures after { self.new ≡ counts_after_fetch self.old result }
     {
+        self.calls = self.calls.saturating_add(1);
         match self.read(alloc, name, limit.saturating_add(1)) {
             Ok(bytes) if bytes.len() as u64 <= limit => Ok(bytes),
             Ok(_) => Err(FetchError::TooLarge { limit }),
-            Err(ReadStop::NoMemory) => Err(FetchError::NoMemory),
+            Err(ReadStop::NoMemory) => {
+                self.wants = self.wants.saturating_add(1);
+                Err(FetchError::NoMemory)
+            }
             Err(ReadStop::Failed) => {
                 self.failed_fetches = self.failed_fetches.saturating_add(1);
                 Err(FetchError::Failed)
@@ -87,11 +107,15 @@ impl<R: Files + Clone + Drop> Shelf for FileShelf<R> {
         ensures answer { PutAnswer None None name.now bytes.now (Rose self.old.puts self.new.puts) result }
         ensures fetch_faults { self.old.fetches ≤ self.new.fetches }
         ensures put_faults { self.old.puts ≤ self.new.puts }
+        ensures steady { PutCounts (λ _. self.old.puts) (λ _. self.new.puts) result }
+        ensures calls { self.new.calls ≡ next_count self.old.calls }
+        ensures wants { self.new.wants ≡ wants_after_put self.old.wants result }
 
         // It takes no memory.
         ensures memory { result ≢ Err PutError.NoMemory }
         ensures after { self.new ≡ counts_after_put self.old result }
     {
+        self.calls = self.calls.saturating_add(1);
         if !self.write(name, bytes) {
             self.failed_puts = self.failed_puts.saturating_add(1);
             return Err(PutError::Failed);

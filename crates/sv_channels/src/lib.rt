@@ -8,6 +8,7 @@ mod errors;
 mod files;
 mod memory_shelf;
 mod memory_sink;
+mod name_counts;
 mod named_bytes;
 mod numbers;
 mod output;

@@ -63,9 +63,9 @@ fn listed_calls_of_a_shelf_fail(rt: HostRuntime) -> Result<(), Fail> {
 fn listed_calls_of_a_sink_write_a_first_part(rt: HostRuntime) -> Result<(), Fail> {
     let alloc = rt.alloc();
     let mut fails = Pairs::new(alloc);
-    fails.push(1, 2)?;
-    fails.push(2, 9)?;
-    fails.push(2, 0)?;
+    fails.push((1, 2))?;
+    fails.push((2, 9))?;
+    fails.push((2, 0))?;
     let mut sink = MemorySink::new(alloc, fails);
     sink.write(alloc, b"abc")?;
     assert_eq!(rt; sink.write(alloc, b"def"), Err(SinkError::Failed));
@@ -119,6 +119,7 @@ fn missing_files_and_folders_are_failures(rt: HostRuntime) -> Result<(), Fail> {
         shelf.fetch(alloc, "missing", 9).err(),
         Some(FetchError::Failed)
     );
+    // A folder opens, and reading it fails: that is no empty file.
     assert_eq!(rt; shelf.fetch(alloc, ".", 9).err(), Some(FetchError::Failed));
     assert_eq!(rt;
         shelf.put(alloc, "missing/file", b"abc"),
@@ -158,10 +159,11 @@ impl Read for ShortReader {
     }
 }
 
-// Takes one byte at a time, and then none.
+// Keeps one byte at a time, and then takes none.
 #[derive(Drop)]
 struct ShortWriter {
     room: u32,
+    kept: Vec<u8>,
 }
 
 impl Write for ShortWriter {
@@ -170,12 +172,26 @@ impl Write for ShortWriter {
             return Ok(0);
         }
         self.room -= 1;
-        Ok(1)
+        match self.kept.push(bytes[0]) {
+            Ok(()) => Ok(1),
+            Err(_) => Err(io::Error::from(ErrorKind::OutOfMemory)),
+        }
     }
 
     fn flush(&mut self) -> io::Result<()> {
         Ok(())
     }
+}
+
+// Whether three bytes are written to a writer with this room, and what it kept of them.
+fn written(alloc: Global, room: u32) -> (bool, Vec<u8>) {
+    let mut writer = ShortWriter {
+        room,
+        kept: Vec::new(alloc),
+    };
+    let whole = write_whole(&mut writer, b"abc");
+    let ShortWriter { kept, .. } = writer;
+    (whole, kept)
 }
 
 #[test]
@@ -184,7 +200,11 @@ fn a_transfer_may_stop_half_way(rt: HostRuntime) -> Result<(), Fail> {
     let whole = read_up_to(alloc, &mut ShortReader { left: 3 }, 3);
     assert_eq!(rt; whole.ok().map(|bytes| bytes.len()), Some(3));
     assert!(rt; read_up_to(alloc, &mut ShortReader { left: 2 }, 3).is_err());
-    assert!(rt; write_whole(&mut ShortWriter { room: 3 }, b"abc"));
-    assert!(rt; !write_whole(&mut ShortWriter { room: 2 }, b"abc"));
+    let (whole, kept) = written(alloc, 3);
+    assert!(rt; whole);
+    assert_eq!(rt; kept.as_slice(), b"abc".as_slice());
+    let (whole, kept) = written(alloc, 2);
+    assert!(rt; !whole);
+    assert_eq!(rt; kept.as_slice(), b"ab".as_slice());
     Ok(())
 }

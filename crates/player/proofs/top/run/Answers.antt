@@ -1,66 +1,99 @@
-use Rattle.std.proofs.Common.{◌≡◌, ◌≤◌, ℕ, sym, subst, length, Some, Vec, Err}
+use Rattle.std.proofs.Common.{◌≡◌, ◌≤◌, ℕ, sym, subst, ap, ◌∙◌, length, Some, Vec, Err}
 use Rattle.std.specs.Prelude.{IfSome}
 use Rattle.std.specs.FinMap.{get}
 use Rattle.std.specs.declared.alloc.Global.{Global}
-use Rattle.sv_channels.specs.Counts.{Rose}
-use Rattle.player.specs.FormView.{form_view}
+use Rattle.sv_channels.specs.Counts.{next_count, Rose}
+use Rattle.player.specs.Limits.{project_limit, script_limit}
+use Rattle.player.specs.Command.{Form}
+use Rattle.player.specs.Promise.{Outcome, AnswerCause, Wrote, Writes}
 use Rattle.player.specs.Stages.{Fetched}
 use Rattle.player.specs.declared.status.Which.TheVariants as which
-use Rattle.player.proofs.Calls.{exact_refused, exact_unfetched, exact_played, wrote_unfetched, wrote_played}
+use Rattle.player.proofs.Calls.{always, at_load, at_script, at_end, refused, script_causes, unfetched_wrote, script_fetches, played_cause, played_fetches}
 use Rattle.player.proofs.top.run.Goals as goal
 
+-- the project is refused
 pub returns-in-Err-load-clause-exact : goal.returns-in-Err-load-clause-exact
 returns-in-Err-load-clause-exact g c =
     let held = g.H.Shelf.held c.args.shelf.now in
-    let name = c.args.form.now.project.now in
-    let value = sym c.deref.ensures.value in
-    exact_refused held (form_view c.args.form.now) c.deref.result.now c.in-Err-load.status
-    (subst (λ bs. length bs ≤ 33554432) value c.in-Ok.ensures.answer.0)
-    (subst (λ bs. IfSome held (λ files. get files name ≡ Some bs)) value c.in-Ok.ensures.answer.1)
-    c.in-Err-load.ensures
+    let form : Form = record { project = c.args.project.now; script = c.args.script.now } in
+    let small = subst (λ bs. length bs ≤ project_limit) (sym c.deref.ensures.value) c.in-Ok.ensures.answer.0 in
+    let is = subst (λ bs. IfSome held (λ files. get files form.project ≡ Some bs)) (sym c.deref.ensures.value) c.in-Ok.ensures.answer.1 in
+    let failed = Rose (g.H.Shelf.fetch_faults c.args.shelf.now form.project) (g.H.Shelf.fetch_faults c.fetch.new.shelf form.project) in
+    let wanted = Rose (g.H.Shelf.wants c.args.shelf.now) (g.H.Shelf.wants c.fetch.new.shelf) in
+    at_load (λ (o : Outcome). AnswerCause failed wanted o.ending c.in-Err-load.status) held form c.deref.result.now small is
+    (λ next k loading b. refused c.deref.result.now failed wanted c.in-Err-load.status next k c.in-Err-load.ensures loading b)
+
+-- the script is not fetched
 
 pub returns-in-Err-fetch-clause-exact : goal.returns-in-Err-fetch-clause-exact
 returns-in-Err-fetch-clause-exact g c =
     let held = g.H.Shelf.held c.args.shelf.now in
-    let name = c.args.form.now.project.now in
-    let value = sym c.deref.ensures.value in
-    let failed = Rose (g.H.Shelf.fetch_faults c.fetch.new.shelf c.args.form.now.script.now) (g.H.Shelf.fetch_faults c.fetch-2.new.shelf c.args.form.now.script.now) in
-    exact_unfetched (Vec ℕ Global) (λ v. v.items) held (form_view c.args.form.now) c.deref.result.now c.in-Ok-load.project failed c.in-Err-fetch.status
-    (subst (λ bs. length bs ≤ 33554432) value c.in-Ok.ensures.answer.0)
-    (subst (λ bs. IfSome held (λ files. get files name ≡ Some bs)) value c.in-Ok.ensures.answer.1)
-    c.in-Ok-load.ensures
-    (subst (λ h. Fetched h c.args.form.now.script.now which.Script 16777216 failed {A = Vec ℕ Global} (λ v. v.items) (Err c.in-Err-fetch.status)) c.in-Ok.ensures.held c.in-Err-fetch.ensures.answer)
+    let form : Form = record { project = c.args.project.now; script = c.args.script.now } in
+    let small = subst (λ bs. length bs ≤ project_limit) (sym c.deref.ensures.value) c.in-Ok.ensures.answer.0 in
+    let is = subst (λ bs. IfSome held (λ files. get files form.project ≡ Some bs)) (sym c.deref.ensures.value) c.in-Ok.ensures.answer.1 in
+    let failed = Rose (g.H.Shelf.fetch_faults c.args.shelf.now form.project) (g.H.Shelf.fetch_faults c.fetch-2.new.shelf form.project) in
+    let wanted = Rose (g.H.Shelf.wants c.args.shelf.now) (g.H.Shelf.wants c.fetch-2.new.shelf) in
+    let script_failed = Rose (g.H.Shelf.fetch_faults c.fetch.new.shelf form.script) (g.H.Shelf.fetch_faults c.fetch-2.new.shelf form.script) in
+    let script_wanted = Rose (g.H.Shelf.wants c.fetch.new.shelf) (g.H.Shelf.wants c.fetch-2.new.shelf) in
+    let answer = subst (λ h. Fetched h form.script which.Script script_limit script_failed script_wanted {A = Vec ℕ Global} (λ v. v.items) (Err c.in-Err-fetch.status)) c.in-Ok.ensures.held c.in-Err-fetch.ensures.answer in
+    at_script (λ (o : Outcome). AnswerCause failed wanted o.ending c.in-Err-fetch.status) held form c.deref.result.now c.in-Ok-load.project small is c.in-Ok-load.ensures
+    (script_causes (Vec ℕ Global) (λ v. v.items) held form c.in-Ok-load.project failed wanted script_failed script_wanted c.in-Err-fetch.status answer)
+
+pub returns-in-Err-fetch-clause-bytes : goal.returns-in-Err-fetch-clause-bytes
+returns-in-Err-fetch-clause-bytes g c =
+    let held = g.H.Shelf.held c.args.shelf.now in
+    let form : Form = record { project = c.args.project.now; script = c.args.script.now } in
+    let script_failed = Rose (g.H.Shelf.fetch_faults c.fetch.new.shelf form.script) (g.H.Shelf.fetch_faults c.fetch-2.new.shelf form.script) in
+    let script_wanted = Rose (g.H.Shelf.wants c.fetch.new.shelf) (g.H.Shelf.wants c.fetch-2.new.shelf) in
+    let answer = subst (λ h. Fetched h form.script which.Script script_limit script_failed script_wanted {A = Vec ℕ Global} (λ v. v.items) (Err c.in-Err-fetch.status)) c.in-Ok.ensures.held c.in-Err-fetch.ensures.answer in
+    let written = g.K.Sink.written c.args.out.now in
+    always (λ (o : Outcome). Wrote written written o.frames c.in-Err-fetch.status) held form
+    (λ o. unfetched_wrote (Vec ℕ Global) (λ v. v.items) held form.script which.Script script_limit script_failed script_wanted c.in-Err-fetch.status written o.frames answer)
+
+pub returns-in-Err-fetch-clause-fetches : goal.returns-in-Err-fetch-clause-fetches
+returns-in-Err-fetch-clause-fetches g c = (
+  2,
+  script_fetches (Vec ℕ Global) (λ v. v.items) _ _ _ _ _ c.in-Err-fetch.status c.in-Err-fetch.ensures.answer,
+  c.in-Err-fetch.ensures.calls ∙ ap next_count c.in-Ok.ensures.calls,
+)
+
+-- the lines are played
 
 pub returns-clause-exact : goal.returns-clause-exact
 returns-clause-exact g c =
     let held = g.H.Shelf.held c.args.shelf.now in
-    let name = c.args.form.now.project.now in
-    let script = c.args.form.now.script.now in
-    let value = sym c.deref.ensures.value in
-    let text = sym c.deref-2.ensures.value in
-    exact_played held (form_view c.args.form.now) c.deref.result.now c.deref-2.result.now c.in-Ok-load.project _ c.play_lines.result
-    (subst (λ bs. length bs ≤ 33554432) value c.in-Ok.ensures.answer.0)
-    (subst (λ bs. IfSome held (λ files. get files name ≡ Some bs)) value c.in-Ok.ensures.answer.1)
-    c.in-Ok-load.ensures
-    (subst (λ bs. length bs ≤ 16777216) text c.in-Ok-fetch.ensures.answer.0)
-    (subst (λ bs. IfSome held (λ files. get files script ≡ Some bs)) text (subst (λ h. IfSome h (λ files. get files script ≡ Some c.in-Ok-fetch.bytes.items)) c.in-Ok.ensures.held c.in-Ok-fetch.ensures.answer.1))
-    c.play_lines.ensures.cause
+    let form : Form = record { project = c.args.project.now; script = c.args.script.now } in
+    let small = subst (λ bs. length bs ≤ project_limit) (sym c.deref.ensures.value) c.in-Ok.ensures.answer.0 in
+    let is = subst (λ bs. IfSome held (λ files. get files form.project ≡ Some bs)) (sym c.deref.ensures.value) c.in-Ok.ensures.answer.1 in
+    let short = subst (λ bs. length bs ≤ script_limit) (sym c.deref-2.ensures.value) c.in-Ok-fetch.ensures.answer.0 in
+    let text = subst (λ bs. IfSome held (λ files. get files form.script ≡ Some bs)) (sym c.deref-2.ensures.value) (subst (λ h. IfSome h (λ files. get files form.script ≡ Some c.in-Ok-fetch.bytes.items)) c.in-Ok.ensures.held c.in-Ok-fetch.ensures.answer.1) in
+    let failed = Rose (g.H.Shelf.fetch_faults c.args.shelf.now form.project) (g.H.Shelf.fetch_faults c.fetch-2.new.shelf form.project) in
+    let wanted = Rose (g.H.Shelf.wants c.args.shelf.now) (g.H.Shelf.wants c.fetch-2.new.shelf) in
+    at_end (λ (o : Outcome). AnswerCause failed wanted o.ending c.play_lines.result) held form c.deref.result.now c.deref-2.result.now c.in-Ok-load.project small is c.in-Ok-load.ensures short text
+    (played_cause _ failed wanted _ c.play_lines.result c.play_lines.ensures.cause)
 
 pub returns-clause-bytes : goal.returns-clause-bytes
 returns-clause-bytes g c =
     let held = g.H.Shelf.held c.args.shelf.now in
-    let name = c.args.form.now.project.now in
-    let script = c.args.form.now.script.now in
-    let value = sym c.deref.ensures.value in
-    let text = sym c.deref-2.ensures.value in
-    wrote_played held (form_view c.args.form.now) c.deref.result.now c.deref-2.result.now c.in-Ok-load.project (g.K.Sink.written c.args.out.now) (g.K.Sink.written c.play_lines.new.out) c.play_lines.result
-    (subst (λ bs. length bs ≤ 33554432) value c.in-Ok.ensures.answer.0)
-    (subst (λ bs. IfSome held (λ files. get files name ≡ Some bs)) value c.in-Ok.ensures.answer.1)
-    c.in-Ok-load.ensures
-    (subst (λ bs. length bs ≤ 16777216) text c.in-Ok-fetch.ensures.answer.0)
-    (subst (λ bs. IfSome held (λ files. get files script ≡ Some bs)) text (subst (λ h. IfSome h (λ files. get files script ≡ Some c.in-Ok-fetch.bytes.items)) c.in-Ok.ensures.held c.in-Ok-fetch.ensures.answer.1))
+    let form : Form = record { project = c.args.project.now; script = c.args.script.now } in
+    let small = subst (λ bs. length bs ≤ project_limit) (sym c.deref.ensures.value) c.in-Ok.ensures.answer.0 in
+    let is = subst (λ bs. IfSome held (λ files. get files form.project ≡ Some bs)) (sym c.deref.ensures.value) c.in-Ok.ensures.answer.1 in
+    let short = subst (λ bs. length bs ≤ script_limit) (sym c.deref-2.ensures.value) c.in-Ok-fetch.ensures.answer.0 in
+    let text = subst (λ bs. IfSome held (λ files. get files form.script ≡ Some bs)) (sym c.deref-2.ensures.value) (subst (λ h. IfSome h (λ files. get files form.script ≡ Some c.in-Ok-fetch.bytes.items)) c.in-Ok.ensures.held c.in-Ok-fetch.ensures.answer.1) in
+    at_end (λ (o : Outcome). Wrote (g.K.Sink.written c.args.out.now) (g.K.Sink.written c.play_lines.new.out) o.frames c.play_lines.result) held form c.deref.result.now c.deref-2.result.now c.in-Ok-load.project small is c.in-Ok-load.ensures short text
     c.play_lines.ensures.bytes
 
-pub returns-in-Err-fetch-clause-bytes : goal.returns-in-Err-fetch-clause-bytes
-returns-in-Err-fetch-clause-bytes g c =
-    wrote_unfetched (Vec ℕ Global) (λ v. v.items) (g.H.Shelf.held c.args.shelf.now) _ (form_view c.args.form.now) _ c.in-Err-fetch.status (g.K.Sink.written c.args.out.now) c.in-Err-fetch.ensures.answer
+pub returns-clause-writes : goal.returns-clause-writes
+returns-clause-writes g c =
+    let held = g.H.Shelf.held c.args.shelf.now in
+    let form : Form = record { project = c.args.project.now; script = c.args.script.now } in
+    let small = subst (λ bs. length bs ≤ project_limit) (sym c.deref.ensures.value) c.in-Ok.ensures.answer.0 in
+    let is = subst (λ bs. IfSome held (λ files. get files form.project ≡ Some bs)) (sym c.deref.ensures.value) c.in-Ok.ensures.answer.1 in
+    let short = subst (λ bs. length bs ≤ script_limit) (sym c.deref-2.ensures.value) c.in-Ok-fetch.ensures.answer.0 in
+    let text = subst (λ bs. IfSome held (λ files. get files form.script ≡ Some bs)) (sym c.deref-2.ensures.value) (subst (λ h. IfSome h (λ files. get files form.script ≡ Some c.in-Ok-fetch.bytes.items)) c.in-Ok.ensures.held c.in-Ok-fetch.ensures.answer.1) in
+    at_end (λ (o : Outcome). Writes (g.K.Sink.calls c.args.out.now) (g.K.Sink.calls c.play_lines.new.out) o.frames c.play_lines.result) held form c.deref.result.now c.deref-2.result.now c.in-Ok-load.project small is c.in-Ok-load.ensures short text
+    c.play_lines.ensures.writes
+
+pub returns-clause-fetches : goal.returns-clause-fetches
+returns-clause-fetches g c =
+    (2, played_fetches _ _ c.play_lines.result c.play_lines.ensures.cause, c.in-Ok-fetch.ensures.calls ∙ ap next_count c.in-Ok.ensures.calls)

@@ -1,0 +1,29 @@
+-- The command's words.
+use Rattle.std.specs.Prelude.{ℕ, ◌-◌, ◌^◌, ◌&&◌, List, [], ◌∷◌, Option, None, Some, bytes_eq, codes, if◌then◌else◌}
+use Rattle.player.specs.WholeNumbers.{whole_up_to}
+use Rattle.player.specs.declared.command.Command.{Command as CommandOfWords}
+use Rattle.player.specs.declared.command.Command.TheVariants as words
+
+-- the names of the files in `play PROJECT SCRIPT SEED -`
+pub record Form : Type 0 where
+  pub project : List ℕ
+  pub script : List ℕ
+
+-- what the words ask for
+pub data Command : Type 0 where
+  play : Form → Command
+
+-- the seed is a whole number below 2^64; this form of a project draws no random word
+abbrev pub play_by : List ℕ → List ℕ → List ℕ → List ℕ → Option ℕ → List ℕ → Option Command
+play_by command project script seed None save = None
+play_by command project script seed (Some number) save =
+    if bytes_eq command (codes "play") && bytes_eq save (codes "-") then Some (play (record { project = project; script = script })) else None
+
+-- the command of the words, without the program's name
+abbrev pub command_of : List (List ℕ) → Option Command
+command_of (command ∷ project ∷ script ∷ seed ∷ save ∷ []) = play_by command project script seed (whole_up_to (2 ^ 64 - 1) seed) save
+command_of words = None
+
+-- a helper of private functions: a command without where its words lie in memory
+abbrev pub command_view : CommandOfWords → Command
+command_view (words.Play project script) = play (record { project = project.now; script = script.now })
