@@ -1,6 +1,6 @@
 //! A list of items, the base of all named lists.
 
-ghost use Rattle.std.specs.Prelude.{◌≡◌, [], ◌∷◌, ◌++◌, length, slice_get, OnOk, OnErr, IsTrue, ◌↔◌, ◌==◌, ◌<◌, ◌^◌};
+ghost use Rattle.std.specs.Prelude.{◌≡◌, [], ◌∷◌, ◌++◌, length, slice_get, slice_set, Some, OnOk, OnErr, IsTrue, ◌↔◌, ◌==◌, ◌<◌, ◌^◌};
 ghost use Rattle.std.specs.Iterator.Adapters.{IterYieldsInOrder, IterYieldsInReverse};
 ghost use Rattle.std.specs.List.{AllZip};
 ghost use Rattle.std.specs.Option.{option_copied};
@@ -8,6 +8,7 @@ ghost use Rattle.std.specs.Slice.Iter.{iter_rest};
 
 use std::alloc::{AllocError, Global};
 use std::marker::Model;
+use std::mem;
 use std::slice::Iter;
 
 /// Items in order. Contracts see the list of them, each as its own model. A named list is an alias, as
@@ -59,6 +60,15 @@ impl<T> ListOf<T> {
     {
         self.items.push(item)?;
         Ok(())
+    }
+
+    /// Puts an item at a place, counted from 0, and gives the one that stood there. It takes no memory.
+    pub fn replace(&mut self, place: usize, item: T) -> T
+        requires { place < length self.old }
+        ensures new { self.new ≡ slice_set self.old place item }
+        ensures old { slice_get self.old place ≡ Some result }
+    {
+        mem::replace(&mut self.items[place], item)
     }
 
     /// The item at a place, counted from 0. `None` where the list is not that long.

@@ -13,13 +13,14 @@ fn three(alloc: Global) -> Result<ListOf<u8>, AllocError> {
 
 #[test]
 fn a_list_has_what_was_pushed_in_order(rt: HostRuntime) {
-    let list = three(rt.alloc()).expect(&rt, "memory");
+    let mut list = three(rt.alloc()).expect(&rt, "memory");
     assert_eq!(rt; list.len(), 3);
     assert!(rt; !list.is_empty());
     assert_eq!(rt; list.get(1).copied(), Some(0));
     assert_eq!(rt; list.get(3).copied(), None);
     assert_eq!(rt; list.as_slice(), [7, 0, 7].as_slice());
-    assert_eq!(rt; list.into_vec().as_slice(), [7, 0, 7].as_slice());
+    assert_eq!(rt; list.replace(1, 9), 0);
+    assert_eq!(rt; list.into_vec().as_slice(), [7, 9, 7].as_slice());
 }
 
 #[test]

@@ -1,11 +1,12 @@
 -- The parts that a text is read in.
-use Rattle.std.proofs.Common.{◌≡◌, ℕ, ◌<◌, Bool, false, List, [], ◌∷◌, length, take, drop, inl, inr, refl, sym, ap, ◌∙◌, arith}
+use Rattle.std.proofs.Common.{◌≡◌, ℕ, ◌+◌, ◌<◌, ◌≤◌, Bool, false, not, if◌then◌else◌, nat_lt, List, [], ◌∷◌, length, take, drop, inl, inr, refl, sym, ap, ◌∙◌, arith}
 use Rattle.std.specs.Prelude.{◌==◌, min, Option, Some, None, unwrap_or, codes}
 use Rattle.std.specs.Str.{bytes_eq}
 use Rattle.std.proofs.Math.Numerals.{one-add}
 use Rattle.std.specs.Str.Parse.{AllDigits}
-use Rattle.std.specs.List.{prefix_len}
-use Rattle.std.proofs.lemmas.Bool.{cond_both, cases_Bool, cond-false, ltb-true}
+use Rattle.std.specs.List.{prefix_len, position}
+use Rattle.std.proofs.lemmas.List.Sums.{prefix_len-le-length}
+use Rattle.std.proofs.lemmas.Bool.{cond_both, cases_Bool, cond-false, ltb-true, ltb-false}
 use Rattle.scratch_number.specs.Reading.{after_digits, after_fraction, base_of, base_of_letter, digit_run, digits_front, fraction_front, is_digit, cap, capped_exponent, exponent_of, decimal_number, unsigned_number}
 use Rattle.scratch_number.specs.declared.number.Num.{Num}
 use Rattle.scratch_number.specs.declared.number.Num.TheVariants.{Nan}
@@ -16,6 +17,25 @@ unfolding base_of base_of_letter
 base_of-short [] short = refl
 base_of-short (c ∷ []) short = cond_both (c == 48) 0 0 (λ x. x ≡ 0) (λ e. refl) (λ e. refl)
 base_of-short (c ∷ d ∷ cs) short = absurd (omega arith)
+
+not_not : (t : List ℕ) → prefix_len (λ c. not (not (is_digit 10 c))) t ≡ prefix_len (is_digit 10) t
+not_not [] = refl
+not_not (c ∷ cs) = elim (cases_Bool (is_digit 10 c)) [
+  | inl digit ↦ rw digit (ap (λ (k : ℕ). 1 + k) (not_not cs))
+  | inr other ↦ rw other refl
+]
+
+position_or-length : (n k : ℕ) → n ≤ k → unwrap_or (if nat_lt n k then Some n else None) k ≡ n
+position_or-length n k within = elim (cases_Bool (nat_lt n k)) [
+  | inl before ↦ rw before refl
+  | inr behind ↦ rw behind (omega (arith, ltb-false n k behind))
+]
+
+-- the digits at the front end at the first byte that is none, or at the end
+pub digit_run-position : (t : List ℕ) → unwrap_or (position (λ c. not (is_digit 10 c)) t) (length t) ≡ digit_run t
+unfolding digit_run
+digit_run-position t =
+    position_or-length _ (length t) (prefix_len-le-length (λ c. not (not (is_digit 10 c))) t) ∙ not_not t
 
 digits_take-all : (t : List ℕ) → AllDigits 10 (take (prefix_len (is_digit 10) t) t)
 digits_take-all [] = tt

@@ -1,3 +1,4 @@
+pub mod Limit
 pub mod Number
 pub mod Arithmetic
 pub mod Angles

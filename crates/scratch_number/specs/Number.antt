@@ -5,10 +5,7 @@ use Rattle.std.specs.declared.cmp.Ordering.{Ordering}
 use Rattle.std.specs.declared.cmp.Ordering.TheVariants.{Less, Equal, Greater}
 use Rattle.scratch_number.specs.declared.number.Num.{Num}
 use Rattle.scratch_number.specs.declared.number.Num.TheVariants.{Fixed, Inf, NegInf, Nan}
-
--- the largest size of a number that is finite, in millionths: 9·10^18
-abbrev pub limit : ℕ
-limit = 9000000000000000000
+pub use Rattle.scratch_number.specs.Limit.{limit}
 
 -- the number of z millionths: past the limit it is the infinity of its sign
 abbrev pub number : ℤ → Num

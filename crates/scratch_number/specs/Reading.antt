@@ -1,4 +1,5 @@
--- The number of a text as a function of the text. `Reads` of the file Grammar says what it gives.
+-- The number of a text as a function of the text. `Reads` of the file Grammar says what it gives. The
+-- steps on the way and the cut sizes are helpers, which the contracts of private functions cite.
 use Rattle.std.specs.Prelude.{ℕ, ◌+◌, ◌*◌, ◌==◌, nat_lt, min, pos, Bool, false, ◌&&◌, ◌||◌, if◌then◌else◌, Option, Some, None, List, [], ◌∷◌, ◌++◌, length, take, drop, slice_index, codes}
 use Rattle.std.specs.Char.{digit_value}
 use Rattle.std.specs.List.{prefix_len, list_all}

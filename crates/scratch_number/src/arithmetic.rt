@@ -1,10 +1,14 @@
 ghost use Rattle.std.specs.Prelude.{◌≡◌, ◌≢◌, ◌≤◌, ◌<◌, ◌+◌, ◌*◌, ◌^◌, pos, unsigned_abs};
 ghost use Rattle.scratch_number.specs.Arithmetic.{add, div, finite_modulo, infinity_over, modulo, mul, ratio, sub};
-ghost use Rattle.scratch_number.specs.Number.{infinity_by, near, near_size, number};
+ghost use Rattle.scratch_number.specs.Number.{infinity_by, limit, near, near_size, number};
 
 use crate::number::{Num, Raw, negated, of_millionths, of_size, of_whole};
 
+// Below it 64 bits hold twice a number and twice another: 2^61.
+const SMALL: u128 = 1 << 61;
+
 /// The sum. `Inf` and `NegInf` together are not a number.
+#[inline]
 pub fn add(a: Num, b: Num) -> Num
     ensures { result ≡ add a b }
 {
@@ -146,8 +150,8 @@ fn ratio(x: Raw, y: Raw) -> Num
 // twice it with a divisor.
 fn near(n: i128, d: i128) -> Num
     requires divisor { d ≢ pos 0 }
-    requires small { unsigned_abs n ≤ 9000000000000000000 * 9000000000000000000 }
-    requires small_divisor { unsigned_abs d ≤ 9000000000000000000 }
+    requires small { unsigned_abs n ≤ limit * limit }
+    requires small_divisor { unsigned_abs d ≤ limit }
     ensures { result ≡ number (near n d) }
 {
     let size = near_size(n.unsigned_abs(), d.unsigned_abs());
@@ -162,6 +166,20 @@ fn near(n: i128, d: i128) -> Num
 pub(crate) fn near_size(n: u128, d: u128) -> u128
     requires divisor { 0 < d }
     requires fits { 2 * n + 2 * d < 2 ^ 128 }
+    ensures { result ≡ near_size n d }
+{
+    if n < SMALL && d < SMALL {
+        return near_small(n as u64, d as u64) as u128;
+    }
+    (2 * n + d) / (2 * d)
+}
+
+// The same of numbers below 2^61, where 64 bits hold all steps.
+#[inline]
+fn near_small(n: u64, d: u64) -> u64
+    requires divisor { 0 < d }
+    requires small { n < 2 ^ 61 }
+    requires small_divisor { d < 2 ^ 61 }
     ensures { result ≡ near_size n d }
 {
     (2 * n + d) / (2 * d)

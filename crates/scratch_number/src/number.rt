@@ -12,12 +12,13 @@ pub struct Raw {
 
 impl Model for Raw {
     ghost use Rattle.std.specs.Prelude.{ℤ, ◌≤◌, unsigned_abs};
+    ghost use Rattle.scratch_number.specs.Limit.{limit};
 
     ghost Value = { ℤ };
 
     ghost view = { λ r. r.millionths };
 
-    ghost invariant = { λ r. unsigned_abs r.millionths ≤ 9000000000000000000 };
+    ghost invariant = { λ r. unsigned_abs r.millionths ≤ limit };
 
     ghost inverse = { λ z. record { millionths = z } };
 }
@@ -40,7 +41,7 @@ const LIMIT: i64 = 9_000_000_000_000_000_000;
 impl Raw {
     /// These millionths, where they are at most 9·10^18 in size.
     pub fn new(millionths: i64) -> Option<Raw>
-        ensures { SomeIff result (unsigned_abs millionths ≤ 9000000000000000000) millionths }
+        ensures { SomeIff result (unsigned_abs millionths ≤ limit) millionths }
     {
         if millionths < -LIMIT || LIMIT < millionths {
             return None;
@@ -49,15 +50,17 @@ impl Raw {
     }
 
     /// The whole millionths.
+    #[inline]
     pub fn get(self) -> i64
         ensures value { result ≡ self }
-        ensures small { unsigned_abs result ≤ 9000000000000000000 }
+        ensures small { unsigned_abs result ≤ limit }
     {
         self.millionths
     }
 }
 
 /// The number of these millionths; past 9·10^18 it is the infinity of its sign.
+#[inline]
 pub fn of_millionths(millionths: i128) -> Num
     ensures { result ≡ number millionths }
 {
@@ -73,6 +76,7 @@ pub fn of_millionths(millionths: i128) -> Num
 }
 
 // The number of this many millionths; past 9·10^18 it is infinite.
+#[inline]
 pub(crate) fn of_size(millionths: u128) -> Num
     ensures { result ≡ number (pos millionths) }
 {
@@ -85,6 +89,7 @@ pub(crate) fn of_size(millionths: u128) -> Num
 }
 
 /// The whole number `n`; past 9·10^12 it is the infinity of its sign.
+#[inline]
 pub fn of_whole(n: i64) -> Num
     ensures { result ≡ number (n *ℤ pos 1000000) }
 {
@@ -92,6 +97,7 @@ pub fn of_whole(n: i64) -> Num
 }
 
 // The number of the opposite sign.
+#[inline]
 pub(crate) fn negated(a: Num) -> Num
     ensures { result ≡ negated a }
 {
@@ -106,6 +112,7 @@ pub(crate) fn negated(a: Num) -> Num
 }
 
 /// Which of two numbers is less. None exactly where one is not a number; an infinity equals itself.
+#[inline]
 pub fn order(a: Num, b: Num) -> Option<Ordering>
     ensures { result ≡ order a b }
 {

@@ -1,6 +1,6 @@
-ghost use Rattle.std.specs.Prelude.{◌≡◌, ◌==◌, ◌||◌, ◌≤◌, ◌<◌, ◌+◌, ◌*◌, ◌^◌, ◌++◌, ℕ, min, length, take, pos};
+ghost use Rattle.std.specs.Prelude.{◌≡◌, ◌==◌, ◌||◌, ◌≤◌, ◌<◌, ◌+◌, ◌*◌, ◌^◌, ◌++◌, ℕ, IfSome, not, min, length, take, pos};
 ghost use Rattle.std.specs.Char.{digit_value};
-ghost use Rattle.std.specs.List.{list_all};
+ghost use Rattle.std.specs.List.{list_all, position};
 ghost use Rattle.std.specs.Str.{trim};
 ghost use Rattle.std.specs.Str.Parse.{AllDigits, digits_value, digits_value_after};
 ghost use Rattle.scratch_number.specs.declared.number.Num.{Num};
@@ -169,12 +169,15 @@ fn digit_run(text: &[u8]) -> usize
     ensures value { result ≡ digit_run text.now }
     ensures within { result ≤ length text.now }
 {
-    for (i, byte) in text.iter().enumerate() {
-        if digit_value(*byte) >= 10 {
-            return i;
-        }
-    }
-    text.len()
+    digits_end(text).unwrap_or(text.len())
+}
+
+// The place of the first byte that is no digit, if there is one.
+fn digits_end(text: &[u8]) -> Option<usize>
+    ensures value { result ≡ position (λ c. not (is_digit 10 c)) text.now }
+    ensures within { IfSome result (λ i. i < length text.now) }
+{
+    text.iter().position(|byte| digit_value(*byte) >= 10)
 }
 
 // Whether a text is digits in the base, one or more.

@@ -1,6 +1,6 @@
 ghost use Rattle.std.specs.Prelude.{◌≡◌, ◌≤◌, ◌+◌, ◌*ℤ◌, unsigned_abs};
 ghost use Rattle.scratch_number.specs.Arithmetic.{abs, ceiling, floor, million, round};
-ghost use Rattle.scratch_number.specs.Number.{floor_quotient};
+ghost use Rattle.scratch_number.specs.Number.{floor_quotient, limit};
 
 use crate::number::{Num, negated, of_millionths, of_size};
 
@@ -49,7 +49,7 @@ pub fn abs(a: Num) -> Num
 
 // The largest whole number of millions that is at most `millionths`, in millionths.
 fn whole_part(millionths: i128) -> i128
-    requires { unsigned_abs millionths ≤ 9000000000000500000 }
+    requires { unsigned_abs millionths ≤ limit + 500000 }
     ensures value { result ≡ floor_quotient millionths million *ℤ million }
     ensures small { unsigned_abs result ≤ unsigned_abs millionths + 1000000 }
 {

@@ -1,7 +1,7 @@
 ghost use Rattle.std.specs.Prelude.{◌≡◌, ◌≤◌, ◌<◌, ◌+◌, ◌^◌, [], ◌∷◌, ◌++◌, length, EachIndex, slice_index};
 ghost use Rattle.std.specs.Fmt.{decimal};
 ghost use Rattle.scratch_number.specs.declared.number.Num.{Num};
-ghost use Rattle.scratch_number.specs.Number.{IsWithin};
+ghost use Rattle.scratch_number.specs.Number.{IsWithin, limit};
 ghost use Rattle.scratch_number.specs.Reading.{number_of};
 ghost use Rattle.scratch_number.specs.Text.{fraction_digits, fraction_text, size_text, text_of};
 
@@ -110,7 +110,7 @@ fn push_raw(x: Raw, out: &mut NumText)
 // Appends a number of millionths.
 fn push_size(size: u64, out: &mut NumText)
     requires room { length out.old ≤ 1 }
-    requires small { size ≤ 9000000000000000000 }
+    requires small { size ≤ limit }
     ensures { out.new ≡ out.old ++ size_text size }
 {
     push_decimal(size / 1_000_000, out);

@@ -2,4 +2,5 @@ pub mod Numbers
 pub mod Parts
 pub mod Orders
 pub mod Foldings
+pub mod Parameters
 mod Rows

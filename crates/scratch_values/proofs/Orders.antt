@@ -2,6 +2,7 @@
 -- number and among those that have none.
 use Rattle.std.proofs.Common.{◌≡◌, ℕ, ℤ, pos, Bool, true, false, if◌then◌else◌, Option, Some, None, is_some, refl, sym, ap, ◌∙◌}
 use Rattle.std.specs.Cmp.{IsTotalOrder}
+use Rattle.std.specs.Option.{option_zip}
 use Rattle.std.specs.Ordering.{is_gt, int_cmp, nat_cmp, on, then_cmp, ordering_reverse}
 use Rattle.std.specs.declared.cmp.Ordering.{Ordering}
 use Rattle.std.proofs.lemmas.Cmp.{int_cmp_total, nat_cmp_total, nat_list_cmp_total, on_total, then_total, upto}
@@ -10,7 +11,7 @@ use Rattle.scratch_number.specs.declared.number.Num.TheVariants.{Fixed, Inf, Neg
 use Rattle.scratch_number.specs.Reading.{number_of}
 use Rattle.scratch_values.specs.declared.value.Value.{Value}
 use Rattle.scratch_values.specs.declared.value.Value.TheVariants.{Number, Truth, Text}
-use Rattle.scratch_values.specs.Comparison.{AreAlike, IsUpTo, both, compare, compare_by, folded_of, known, number_order, numeric, text_order}
+use Rattle.scratch_values.specs.Comparison.{AreAlike, IsUpTo, compare, compare_by, folded_of, known, number_order, numeric, text_order}
 
 -- where a number stands among the infinities, and the millionths of a finite one
 rank : Num → ℕ
@@ -81,7 +82,7 @@ IsKnownSide-numeric (Text t) = IsKnownSide-if _ (number_of t)
 text_total : IsTotalOrder text_order
 text_total = on_total folded_of nat_list_cmp_total
 
-by_swapped : (o p : Option Num) (t u : Ordering) → IsKnownSide o → IsKnownSide p → t ≡ ordering_reverse u → compare_by (both o p) t ≡ ordering_reverse (compare_by (both p o) u)
+by_swapped : (o p : Option Num) (t u : Ordering) → IsKnownSide o → IsKnownSide p → t ≡ ordering_reverse u → compare_by (option_zip o p) t ≡ ordering_reverse (compare_by (option_zip p o) u)
 unfolding IsKnownSide
 by_swapped (Some x) (Some y) t u kx ky texts =
     number_order-ranked x y kx ky ∙ ranked_total.antisymm x y ∙ ap ordering_reverse (sym (number_order-ranked y x ky kx))
@@ -94,7 +95,7 @@ pub compare-swapped : (a b : Value) → compare b a ≡ ordering_reverse (compar
 compare-swapped a b = by_swapped (numeric b) (numeric a) (text_order b a) (text_order a b) (IsKnownSide-numeric b) (IsKnownSide-numeric a) (text_total.antisymm b a)
 
 by_upto : (o p q : Option Num) (ab bc ac : Ordering) → IsKnownSide o → IsKnownSide p → IsKnownSide q → is_some o ≡ is_some p → is_some p ≡ is_some q
-    → (IsUpTo ab → IsUpTo bc → IsUpTo ac) → IsUpTo (compare_by (both o p) ab) → IsUpTo (compare_by (both p q) bc) → IsUpTo (compare_by (both o q) ac)
+    → (IsUpTo ab → IsUpTo bc → IsUpTo ac) → IsUpTo (compare_by (option_zip o p) ab) → IsUpTo (compare_by (option_zip p q) bc) → IsUpTo (compare_by (option_zip o q) ac)
 unfolding IsKnownSide
 by_upto (Some x) (Some y) (Some z) ab bc ac kx ky kz e f texts first second =
     ap is_gt (number_order-ranked x z kx kz) ∙ upto ranked_total x y z (ap is_gt (sym (number_order-ranked x y kx ky)) ∙ first) (ap is_gt (sym (number_order-ranked y z ky kz)) ∙ second)

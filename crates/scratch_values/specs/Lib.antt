@@ -5,3 +5,6 @@ pub mod Folding
 pub mod Comparison
 pub mod Index
 pub mod Named
+pub mod Held
+pub mod Args
+pub mod Places

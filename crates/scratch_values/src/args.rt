@@ -1,150 +1,203 @@
-//! The evaluated arguments of a block, and the parameters of a called procedure.
+//! The evaluated arguments of a block.
 
-ghost use Rattle.std.specs.Prelude.{◌≡◌, ℕ, List, [], ◌∷◌, ◌++◌, OnOk, OnErr};
+ghost use Rattle.std.specs.Prelude.{◌≡◌, [], ◌∷◌, map};
 ghost use Rattle.std.specs.Option.{option_map, option_copied};
 ghost use Rattle.scratch_values.specs.Named.{item_named};
+ghost use Rattle.scratch_values.specs.Held.{pair_of};
+ghost use Rattle.scratch_values.specs.Args.{arguments, field_texts, field_variables};
 
-use crate::names::VarRef;
+use crate::held::Arg;
+use crate::names::{ResolvedField, VarRef};
 use crate::value::Value;
 use project_json::Text;
-use std::alloc::{AllocError, Global};
 use std::marker::Model;
 
-/// The arguments of a block: the values of its inputs, the texts of its fields, and the variables
-/// and lists that its fields lead to. Contracts see it as the three lists.
+// The places of inputs: up to three of them take no memory.
 #[derive(Debug, Drop)]
-pub struct Args {
-    values: Vec<(Text, Value)>,
-    fields: Vec<(Text, Text)>,
-    variables: Vec<(Text, VarRef)>,
+enum Places<'p> {
+    Zero,
+    One(Arg<'p>),
+    Two(Arg<'p>, Arg<'p>),
+    Three(Arg<'p>, Arg<'p>, Arg<'p>),
+    Many(Vec<Arg<'p>>),
 }
 
-impl Model for Args {
+/// The arguments of a block: the values of its inputs, the texts of its fields, and the variables
+/// and lists that its fields lead to. Contracts see it as the three lists. The names, the fields and
+/// values that are lent stand in the block.
+#[derive(Debug, Drop)]
+pub struct Args<'p> {
+    places: Places<'p>,
+    fields: &'p [ResolvedField],
+}
+
+impl<'p> Model for Args<'p> {
     ghost use Rattle.scratch_values.specs.Named.{Arguments};
 
     ghost Value = { Arguments };
 
-    ghost view = { λ a. record { values = a.values.items; fields = a.fields.items; variables = a.variables.items } };
+    ghost use Rattle.scratch_values.specs.Args.{arguments};
+    ghost use Rattle.scratch_values.specs.Places.{pairs_in};
+
+    ghost view = { λ a. arguments (pairs_in a.places) a.fields.now };
 }
 
-impl Args {
-    /// No arguments. It takes no memory.
-    pub fn new(alloc: Global) -> Args
-        ensures { result ≡ record { values = []; fields = []; variables = [] } }
+impl<'p> Args<'p> {
+    /// The arguments of a block that has no input. It takes no memory.
+    #[inline]
+    pub fn none(fields: &'p [ResolvedField]) -> Args<'p>
+        ensures { result ≡ arguments [] fields.now }
     {
         Args {
-            values: Vec::new(alloc),
-            fields: Vec::new(alloc),
-            variables: Vec::new(alloc),
+            places: Places::Zero,
+            fields,
         }
     }
 
-    /// Appends the value of an input.
-    pub fn push_value(&mut self, name: Text, value: Value) -> Result<(), AllocError>
-        ensures ok { OnOk result (self.new ≡ record self.old { values = self.old.values ++ (name, value) ∷ [] }) }
-        ensures err { OnErr result (self.new ≡ self.old) }
+    /// The arguments of a block that has one input. It takes no memory.
+    #[inline]
+    pub fn one(fields: &'p [ResolvedField], first: Arg<'p>) -> Args<'p>
+        ensures { result ≡ arguments (pair_of first.entry ∷ []) fields.now }
     {
-        self.values.push((name, value))?;
-        Ok(())
+        Args {
+            places: Places::One(first),
+            fields,
+        }
     }
 
-    /// Appends the text of a field.
-    pub fn push_field(&mut self, name: Text, text: Text) -> Result<(), AllocError>
-        ensures ok { OnOk result (self.new ≡ record self.old { fields = self.old.fields ++ (name, text) ∷ [] }) }
-        ensures err { OnErr result (self.new ≡ self.old) }
+    /// The arguments of a block that has two inputs. It takes no memory.
+    #[inline]
+    pub fn two(fields: &'p [ResolvedField], first: Arg<'p>, second: Arg<'p>) -> Args<'p>
+        ensures { result ≡ arguments (pair_of first.entry ∷ (pair_of second.entry ∷ [])) fields.now }
     {
-        self.fields.push((name, text))?;
-        Ok(())
+        Args {
+            places: Places::Two(first, second),
+            fields,
+        }
     }
 
-    /// Appends the variable or list that a field leads to.
-    pub fn push_variable(&mut self, name: Text, variable: VarRef) -> Result<(), AllocError>
-        ensures ok { OnOk result (self.new ≡ record self.old { variables = self.old.variables ++ (name, variable) ∷ [] }) }
-        ensures err { OnErr result (self.new ≡ self.old) }
+    /// The arguments of a block that has three inputs. It takes no memory.
+    #[inline]
+    pub fn three(
+        fields: &'p [ResolvedField],
+        first: Arg<'p>,
+        second: Arg<'p>,
+        third: Arg<'p>,
+    ) -> Args<'p>
+        ensures { result ≡ arguments (pair_of first.entry ∷ (pair_of second.entry ∷ (pair_of third.entry ∷ []))) fields.now }
     {
-        self.variables.push((name, variable))?;
-        Ok(())
+        Args {
+            places: Places::Three(first, second, third),
+            fields,
+        }
+    }
+
+    /// The arguments of a block that has any number of inputs. It takes no memory.
+    #[inline]
+    pub fn many(fields: &'p [ResolvedField], inputs: Vec<Arg<'p>>) -> Args<'p>
+        ensures { result ≡ arguments (map pair_of inputs.entry.items) fields.now }
+    {
+        Args {
+            places: Places::Many(inputs),
+            fields,
+        }
     }
 
     /// The value of the first input with the name; None where there is none.
+    #[inline]
     pub fn value(&self, name: &str) -> Option<&Value>
         ensures { option_map (λ v. v.now) result ≡ item_named name.now self.now.values }
     {
-        item_named(self.values.as_slice(), name)
+        match &self.places {
+            Places::Zero => None,
+            Places::One(a) => value_in_one(a, name),
+            Places::Two(a, b) => value_in_two(a, b, name),
+            Places::Three(a, b, c) => value_in_three(a, b, c, name),
+            Places::Many(inputs) => value_in_many(inputs.as_slice(), name),
+        }
     }
 
     /// The text of the first field with the name; None where there is none.
+    #[inline]
     pub fn field(&self, name: &str) -> Option<&Text>
         ensures { option_map (λ t. t.now) result ≡ item_named name.now self.now.fields }
     {
-        item_named(self.fields.as_slice(), name)
+        text_of_field(self.fields, name)
     }
 
     /// The variable or list of the first field with the name that leads to one; None where there is
     /// none.
+    #[inline]
     pub fn variable(&self, name: &str) -> Option<VarRef>
         ensures { result ≡ item_named name.now self.now.variables }
     {
-        item_named(self.variables.as_slice(), name).copied()
+        variable_of_field(self.fields, name)
     }
 }
 
-/// The parameters of a called procedure, each with its value. Contracts see it as the list of pairs.
-#[derive(Debug, Drop)]
-pub struct Params {
-    pairs: Vec<(Text, Value)>,
+#[inline]
+fn value_in_one<'s, 'p>(a: &'s Arg<'p>, name: &str) -> Option<&'s Value>
+    ensures { option_map (λ v. v.now) result ≡ item_named name.now (pair_of a.now ∷ []) }
+{
+    if a.name.as_str() == name {
+        return Some(a.value.get());
+    }
+    None
 }
 
-impl Model for Params {
-    ghost use Rattle.std.specs.Prelude.{ℕ, List};
-    ghost use Rattle.scratch_values.specs.declared.value.Value.{Value as Given};
-
-    ghost Value = { List (List ℕ × Given) };
-
-    ghost view = { λ p. p.pairs.items };
+#[inline]
+fn value_in_two<'s, 'p>(a: &'s Arg<'p>, b: &'s Arg<'p>, name: &str) -> Option<&'s Value>
+    ensures { option_map (λ v. v.now) result ≡ item_named name.now (pair_of a.now ∷ (pair_of b.now ∷ [])) }
+{
+    if a.name.as_str() == name {
+        return Some(a.value.get());
+    }
+    value_in_one(b, name)
 }
 
-impl Params {
-    /// No parameters. It takes no memory.
-    pub fn new(alloc: Global) -> Params
-        ensures { result ≡ [] }
-    {
-        Params {
-            pairs: Vec::new(alloc),
+#[inline]
+fn value_in_three<'s, 'p>(
+    a: &'s Arg<'p>,
+    b: &'s Arg<'p>,
+    c: &'s Arg<'p>,
+    name: &str,
+) -> Option<&'s Value>
+    ensures { option_map (λ v. v.now) result ≡ item_named name.now (pair_of a.now ∷ (pair_of b.now ∷ (pair_of c.now ∷ []))) }
+{
+    if a.name.as_str() == name {
+        return Some(a.value.get());
+    }
+    value_in_two(b, c, name)
+}
+
+fn value_in_many<'s, 'p>(inputs: &'s [Arg<'p>], name: &str) -> Option<&'s Value>
+    ensures { option_map (λ v. v.now) result ≡ item_named name.now (map pair_of inputs.now) }
+{
+    for input in inputs {
+        if input.name.as_str() == name {
+            return Some(input.value.get());
         }
     }
-
-    /// Appends a parameter.
-    pub fn push(&mut self, name: Text, value: Value) -> Result<(), AllocError>
-        ensures ok { OnOk result (self.new ≡ self.old ++ (name, value) ∷ []) }
-        ensures err { OnErr result (self.new ≡ self.old) }
-    {
-        self.pairs.push((name, value))?;
-        Ok(())
-    }
-
-    /// The parameters, in their order.
-    pub fn pairs(&self) -> &[(Text, Value)]
-        ensures { result.now ≡ self.now }
-    {
-        self.pairs.as_slice()
-    }
-
-    /// The value of the first parameter with the name; None where there is none.
-    pub fn value(&self, name: &str) -> Option<&Value>
-        ensures { option_map (λ v. v.now) result ≡ item_named name.now self.now }
-    {
-        item_named(self.pairs.as_slice(), name)
-    }
+    None
 }
 
-// The first item with the name.
-fn item_named<'a, T>(pairs: &'a [(Text, T)], name: &str) -> Option<&'a T>
-    ensures { option_map (λ x. x.now) result ≡ item_named name.now pairs.now }
+fn text_of_field<'p>(fields: &'p [ResolvedField], name: &str) -> Option<&'p Text>
+    ensures { option_map (λ t. t.now) result ≡ item_named name.now (field_texts fields.now) }
 {
-    for pair in pairs {
-        if pair.0.as_str() == name {
-            return Some(&pair.1);
+    for field in fields {
+        if field.name.as_str() == name {
+            return Some(&field.text);
+        }
+    }
+    None
+}
+
+fn variable_of_field(fields: &[ResolvedField], name: &str) -> Option<VarRef>
+    ensures { result ≡ item_named name.now (field_variables fields.now) }
+{
+    for field in fields {
+        if field.variable.is_some() && field.name.as_str() == name {
+            return field.variable;
         }
     }
     None

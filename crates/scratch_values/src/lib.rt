@@ -6,18 +6,22 @@ mod bound_text;
 mod casts;
 mod comparison;
 mod folding;
+mod held;
 mod index;
 mod names;
+mod params;
 mod value;
 
-pub use args::{Args, Params};
-pub use bound_text::BoundText;
+pub use args::Args;
+pub use bound_text::{BoundText, LONGEST};
 pub use casts::{to_number, to_text, to_truth};
-pub use comparison::{compare, contains};
+pub use comparison::{compare, contains, numeric};
 pub use folding::fold;
+pub use held::{Arg, Held};
 pub use index::{Index, list_index};
-pub use names::{VarName, VarRef};
-pub use value::Value;
+pub use names::{ResolvedField, VarName, VarRef};
+pub use params::Params;
+pub use value::{Value, ValueLists, Values};
 
 #[cfg(test)]
 mod tests;

@@ -1,6 +1,9 @@
 //! What no clause says.
 
-use crate::{Args, BoundText, Params, Value, VarName, VarRef, compare, to_text};
+use crate::{
+    Arg, Args, BoundText, Held, LONGEST, Params, ResolvedField, Value, ValueLists, Values, VarName,
+    VarRef, compare, numeric, to_text,
+};
 use project_json::Text;
 use scratch_number::{Num, div, of_millionths, of_whole};
 use std::alloc::{AllocError, Global};
@@ -49,23 +52,86 @@ fn value(rt: &impl Abort, alloc: Global, given: Given) -> Result<Value, AllocErr
     }
 }
 
+// The fields of a block: an effect, a variable by a name that leads to none, and by one that does.
+fn fields(alloc: Global) -> Result<Vec<ResolvedField>, AllocError> {
+    let mut fields = Vec::new(alloc);
+    let rows = [
+        ("EFFECT", "ghost", None),
+        ("VARIABLE", "n", None),
+        ("VARIABLE", "m", Some(VarRef::Stage(3))),
+    ];
+    for (name, text, variable) in rows {
+        fields.push(ResolvedField {
+            name: Text::from_str(alloc, name)?,
+            text: Text::from_str(alloc, text)?,
+            variable,
+        })?;
+    }
+    Ok(fields)
+}
+
+fn lent<'p>(name: &'p Text, value: &'p Value) -> Arg<'p> {
+    Arg {
+        name,
+        value: Held::Lent(value),
+    }
+}
+
+fn own<'p>(name: &'p Text, truth: bool) -> Arg<'p> {
+    Arg {
+        name,
+        value: Held::Own(Value::Truth(truth)),
+    }
+}
+
+// Four inputs, two of each name.
+fn four<'p>(
+    alloc: Global,
+    x: &'p Text,
+    y: &'p Text,
+    five: &'p Value,
+) -> Result<Vec<Arg<'p>>, AllocError> {
+    let mut inputs = Vec::new(alloc);
+    for input in [own(x, true), own(x, false), lent(y, five), own(y, true)] {
+        match inputs.push(input) {
+            Ok(()) => {}
+            Err(_) => return Err(AllocError),
+        }
+    }
+    Ok(inputs)
+}
+
+// These arguments have these inputs, and the fields above.
+fn has(rt: &impl Abort, args: Args<'_>, x: Option<&Value>, y: Option<&Value>) {
+    assert_eq!(rt; args.value("X"), x);
+    assert_eq!(rt; args.value("Y"), y);
+    assert!(rt; args.value("EFFECT").is_none());
+    assert_eq!(rt;
+        args.field("EFFECT").map(|text| text.as_str()),
+        Some("ghost")
+    );
+    assert_eq!(rt; args.field("VARIABLE").map(|text| text.as_str()), Some("n"));
+    assert!(rt; args.field("X").is_none());
+    assert_eq!(rt; args.variable("VARIABLE"), Some(VarRef::Stage(3)));
+    assert!(rt; args.variable("EFFECT").is_none());
+}
+
 #[test]
 fn arguments_by_name(rt: HostRuntime) -> Result<(), Fail> {
     let alloc = rt.alloc();
-    let mut args = Args::new(alloc);
-    args.push_value(Text::from_str(alloc, "NUM")?, Value::Truth(true))?;
-    args.push_value(Text::from_str(alloc, "NUM")?, Value::Truth(false))?;
-    args.push_field(
-        Text::from_str(alloc, "EFFECT")?,
-        Text::from_str(alloc, "ghost")?,
-    )?;
-    args.push_variable(Text::from_str(alloc, "VARIABLE")?, VarRef::Stage(3))?;
-    assert_eq!(rt; args.value("NUM"), Some(&Value::Truth(true)));
-    assert!(rt; args.value("EFFECT").is_none());
-    assert_eq!(rt; args.field("EFFECT").ok_or("a field")?.as_str(), "ghost");
-    assert!(rt; args.field("VARIABLE").is_none());
-    assert_eq!(rt; args.variable("VARIABLE"), Some(VarRef::Stage(3)));
-    assert!(rt; args.variable("NUM").is_none());
+    let fields = fields(alloc)?;
+    let x = Text::from_str(alloc, "X")?;
+    let y = Text::from_str(alloc, "Y")?;
+    let five = Value::Number(of_whole(5));
+    let yes = Value::Truth(true);
+    let inputs = four(alloc, &x, &y, &five)?;
+    has(&rt, Args::many(&fields, inputs), Some(&yes), Some(&five));
+    has(&rt, Args::none(&fields), None, None);
+    has(&rt, Args::one(&fields, lent(&x, &five)), Some(&five), None);
+    let two = Args::two(&fields, lent(&x, &five), own(&x, false));
+    has(&rt, two, Some(&five), None);
+    let three = Args::three(&fields, own(&y, true), lent(&x, &five), own(&y, false));
+    has(&rt, three, Some(&five), Some(&yes));
     Ok(())
 }
 
@@ -74,9 +140,14 @@ fn parameters_by_name(rt: HostRuntime) -> Result<(), Fail> {
     let alloc = rt.alloc();
     let mut params = Params::new(alloc);
     params.push(Text::from_str(alloc, "x")?, Value::Number(Num::Inf))?;
-    assert_eq!(rt; params.value("x"), Some(&Value::Number(Num::Inf)));
-    assert!(rt; params.value("y").is_none());
-    assert_eq!(rt; params.pairs().len(), 1);
+    params.put(Text::from_str(alloc, "y")?, Value::Truth(false))?;
+    params.put(Text::from_str(alloc, "x")?, Value::Truth(true))?;
+    assert_eq!(rt; params.value("x"), Some(&Value::Truth(true)));
+    assert_eq!(rt; params.value("y"), Some(&Value::Truth(false)));
+    assert!(rt; params.value("z").is_none());
+    let copy = params.clone()?;
+    assert_eq!(rt; copy.pairs().len(), 2);
+    assert_eq!(rt; copy.pairs()[0].0.as_str(), "x");
     Ok(())
 }
 
@@ -89,23 +160,76 @@ fn values_are_cloned_and_compared(rt: HostRuntime) -> Result<(), Fail> {
         name: Text::from_str(rt.alloc(), "n")?,
         id: None,
     };
-    assert_eq!(rt; name.name.as_str(), "n");
+    assert_eq!(rt; name.clone()?, name);
+    let field = ResolvedField {
+        name: name.name,
+        text: Text::new(rt.alloc()),
+        variable: Some(VarRef::Own(0)),
+    };
+    assert_eq!(rt; field.clone()?, field);
+    Ok(())
+}
+
+#[test]
+fn lists_of_values_are_cloned(rt: HostRuntime) -> Result<(), Fail> {
+    let mut values = Values::new(rt.alloc());
+    values.push(value(&rt, rt.alloc(), Given::Text("a"))?)?;
+    let mut lists = ValueLists::new(rt.alloc());
+    lists.push(values.clone()?)?;
+    let copy = lists.clone()?;
+    values.push(Value::Truth(true))?;
+    assert_eq!(rt; values.len(), 2);
+    let list = copy.get(0).ok_or("a list")?;
+    assert_eq!(rt;
+        list.as_slice(),
+        [value(&rt, rt.alloc(), Given::Text("a"))?].as_slice()
+    );
+    Ok(())
+}
+
+// A literal knows its number, a text of a run reads it, and both are alike.
+#[test]
+fn texts_know_their_numbers(rt: HostRuntime) -> Result<(), Fail> {
+    let alloc = rt.alloc();
+    for (text, number) in [
+        (" 1e1 ", of_whole(10)),
+        ("cat", Num::Nan),
+        ("", of_whole(0)),
+    ] {
+        let literal = BoundText::literal(alloc, text)?.ok_or("a short text")?;
+        let made = BoundText::from_str(alloc, text)?.ok_or("a short text")?;
+        assert_eq!(rt; literal.number(), number, "{text}");
+        assert_eq!(rt; made.number(), number, "{text}");
+        assert_eq!(rt; literal, made, "{text}");
+        assert_eq!(rt; literal.clone()?.number(), number, "{text}");
+    }
+    Ok(())
+}
+
+#[test]
+fn a_text_is_taken_out(rt: HostRuntime) -> Result<(), Fail> {
+    let text = BoundText::from_short(rt.alloc(), Text::from_str(rt.alloc(), "cat")?)?;
+    let copy = text.clone()?;
+    assert_eq!(rt; copy.into_text()?.as_str(), "cat");
+    assert_eq!(rt; text.into_text()?.as_str(), "cat");
     Ok(())
 }
 
 #[test]
 fn texts_are_bounded(rt: HostRuntime) -> Result<(), Fail> {
     let mut long = String::new(rt.alloc());
-    for _ in 0..1_048_576 {
+    for _ in 0..LONGEST {
         long.push('a')?;
     }
     let text = Text::from_str(rt.alloc(), long.as_str())?;
-    assert!(rt; BoundText::new(text).is_some());
+    assert!(rt; BoundText::new(rt.alloc(), text)?.is_some());
     assert!(rt; BoundText::from_str(rt.alloc(), long.as_str())?.is_some());
+    assert!(rt; BoundText::literal(rt.alloc(), long.as_str())?.is_some());
     long.push('a')?;
     let text = Text::from_str(rt.alloc(), long.as_str())?;
-    assert!(rt; BoundText::new(text).is_none());
+    assert!(rt; BoundText::new(rt.alloc(), text)?.is_none());
     assert!(rt; BoundText::from_str(rt.alloc(), long.as_str())?.is_none());
+    assert!(rt; BoundText::literal(rt.alloc(), long.as_str())?.is_none());
     Ok(())
 }
 
@@ -121,5 +245,26 @@ fn quotients(rt: HostRuntime) -> Result<(), Fail> {
     let nan = Value::Number(div(of_whole(0), of_whole(0)));
     let zero = Value::Number(of_whole(0));
     assert_ne!(rt; compare(alloc, &nan, &zero)?, Equal);
+    Ok(())
+}
+
+// What is a number in a comparison, and what is none.
+#[test]
+fn numbers_of_a_comparison(rt: HostRuntime) -> Result<(), Fail> {
+    let rows = [
+        (Given::Text(" 5 "), Some(of_whole(5))),
+        (Given::Text(" "), None),
+        (Given::Text("cat"), None),
+        (Given::Truth(true), Some(of_whole(1))),
+        (Given::Nan, None),
+        (Given::NegInf, Some(Num::NegInf)),
+    ];
+    for (given, number) in rows {
+        assert_eq!(rt;
+            numeric(&value(&rt, rt.alloc(), given)?),
+            number,
+            "{given:?}"
+        );
+    }
     Ok(())
 }

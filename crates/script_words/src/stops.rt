@@ -5,7 +5,7 @@ ghost use Rattle.script_words.specs.declared.stops.CounterKind.TheVariants as ki
 ghost use Rattle.script_words.specs.declared.stops.Stop.TheVariants as stops;
 
 use crate::counting::CounterFull;
-use std::alloc::AllocError;
+use std::alloc::{AllocError, AllocFailed};
 
 /// A counter of a run that has a last value.
 #[derive(Clone, Copy, PartialEq, Eq, Debug)]
@@ -56,5 +56,13 @@ impl From<AllocError> for Stop {
 
     fn from(_: AllocError) -> Stop {
         Stop::NoMemory
+    }
+}
+
+impl<T: Drop> From<AllocFailed<T>> for Stop {
+    ghost from_gives = { λ _ stop. stop ≡ stops.NoMemory };
+
+    fn from(_: AllocFailed<T>) -> Stop {
+        Stop::from(AllocError)
     }
 }

@@ -1,6 +1,7 @@
 //! What no clause says.
 
-use crate::{CounterFull, pcg};
+use crate::{CounterFull, CounterKind, Stop, pcg};
+use std::alloc::{AllocError, AllocFailed};
 use std::process::Abort;
 
 // A seed, and the words that come next.
@@ -221,4 +222,14 @@ fn the_counter_is_full_at_its_last_value(rt: HostRuntime) {
     assert!(rt; words.draw().is_ok());
     assert_eq!(rt; words.draw(), Err(CounterFull));
     assert_eq!(rt; words.drawn(), (1 << 62) - 1);
+}
+
+#[test]
+fn errors_stop_a_run(rt: HostRuntime) {
+    let full = Stop::Counter {
+        which: CounterKind::Words,
+    };
+    assert_eq!(rt; Stop::from(CounterFull), full);
+    assert_eq!(rt; Stop::from(AllocError), Stop::NoMemory);
+    assert_eq!(rt; Stop::from(AllocFailed { value: 7u8 }), Stop::NoMemory);
 }
