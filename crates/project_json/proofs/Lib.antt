@@ -17,3 +17,4 @@ pub mod Places
 pub mod IllFormed
 pub mod Results
 pub mod Rows
+pub mod TextTrees

@@ -10,6 +10,7 @@ pub mod Text
 pub mod Refusal
 pub mod Told
 pub mod Reading
+pub mod TextTree
 pub mod Joining
 pub mod PieceView
 pub mod Places

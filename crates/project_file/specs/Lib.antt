@@ -1,0 +1,10 @@
+pub mod Values
+pub mod Mutation
+pub mod Blocks
+pub mod Targets
+pub mod Limits
+pub mod Linked
+pub mod Resolving
+pub mod Trees
+pub mod TreeAt
+pub mod Reading

@@ -1,0 +1,36 @@
+-- The project that a document tells, or the path of the first value that has not its shape: the members of each target,
+-- then the monitors, then the blocks of each target.
+use Rattle.std.specs.Prelude.{ℕ, List, [], codes, ◌∷◌, Result, Ok}
+use Rattle.project_json.specs.Tree.{Tree}
+use Rattle.shapes.specs.Shapes as shape
+use Rattle.shapes.specs.Shapes.{Reader, ◌>>=◌}
+use Rattle.script_machine.specs.Program.{Records}
+use Rattle.project_file.specs.Blocks.{Block, blocks_of}
+use Rattle.project_file.specs.Targets.{target_of, monitor_of}
+
+-- the blocks of a target, beside the members that tell them, each with its id
+pub record Table : Type 0 where
+  pub members : List (List ℕ × Tree)
+  pub blocks : List Block
+
+-- what a document tells: the records, and the blocks of each target
+pub record File : Type 0 where
+  pub records : Records
+  pub tables : List Table
+
+abbrev pub table_of : Reader (List (List ℕ × Tree)) Table
+table_of at ms = blocks_of at ms >>= (λ blocks. Ok (record { members = ms; blocks = blocks }))
+
+-- the `blocks` of a target
+abbrev pub table_in : Reader Tree Table
+table_in at t = shape.members at t >>= shape.required shape.members (codes "blocks") at >>= table_of (codes "blocks" ∷ at)
+
+abbrev pub file_by : List Tree → Reader (List (List ℕ × Tree)) File
+file_by ts at ms =
+    shape.each target_of (codes "targets" ∷ at) ts >>= (λ targets.
+    shape.defaulted shape.items [] (codes "monitors") at ms >>= shape.each monitor_of (codes "monitors" ∷ at) >>= (λ monitors.
+    shape.each table_in (codes "targets" ∷ at) ts >>= (λ tables.
+    Ok (record { records = record { targets = targets; monitors = monitors }; tables = tables }))))
+
+abbrev pub file_of : Tree → Result File (List ℕ)
+file_of t = shape.members [] t >>= (λ ms. shape.required shape.items (codes "targets") [] ms >>= (λ ts. file_by ts [] ms))

@@ -1,0 +1,11 @@
+//! What a project file tells: definitions, in specs/, of its records, its blocks, which projects are well linked, and the
+//! program of a project; and the plain types that they share with the code.
+#![tactic(auto)]
+
+mod blocks;
+mod laws;
+mod refusals;
+
+pub use blocks::{Code, Input, Link};
+pub use laws::a_link_has_one_script;
+pub use refusals::{At, MutationRefusal, Refusal};

@@ -1,0 +1,6 @@
+pub mod Bubbles
+pub mod Settling
+pub mod Rows
+pub mod Moves
+pub mod Passes
+pub mod Executions
