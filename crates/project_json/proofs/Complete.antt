@@ -8,7 +8,7 @@ use Rattle.project_json.specs.Bytes.{AllTrue, Blanks, is_blank, is_digit}
 use Rattle.project_json.specs.Numbers.{IsInt, lone_zero, nonzero_and, is_nonzero_digit, IsDigits, IsFraction, no_fraction, point_and, IsExponent, no_exponent, e_and, e_sign_and, IsUnsigned, IsNumber, unsigned, minus_and, is_e, is_sign}
 use Rattle.project_json.specs.Strings.{Piece, byte, unit, unit_of, joined, PieceAt, unescaped_here, escape_here, unit_here, Pieces, no_pieces, piece_and, is_unescaped, is_hex, is_escape, escaped}
 use Rattle.project_json.specs.Grammar.{Value, null_here, true_here, false_here, number_here, text_here, no_items_here, items_here, no_members_here, members_here, Spaced, spaced, Items, last_item, more_items, Members, last_member, more_members, Name, name_here, IsJson}
-use Rattle.project_json.specs.Reading.{syntax, Read, ◌>>=◌, skip, after_word, after_byte, digits, after_digits, int_at, with_front, some_digits_at, fraction_at, signed_digits_at, exponent_at, unsigned_at, digits_at, number_at, hex_at, unit_at, escape_at, piece_at, with_piece, pieces_then, pieces_at, chars_at, value_with, mark_at, item_at, with_items, items_then, items_at, list_of, name_at, member_at, members_then, members_at, object_of, value_at, list_below, object_below, end_of, text_of}
+use Rattle.project_json.specs.Reading.{syntax, Read, ◌>>=◌, skip, after_byte, digits, after_digits, int_at, with_front, some_digits_at, fraction_at, signed_digits_at, exponent_at, unsigned_at, digits_at, number_at, hex_at, unit_at, escape_at, piece_at, with_piece, pieces_then, pieces_at, chars_at, value_with, mark_at, item_at, with_items, items_then, items_at, list_of, name_at, member_at, members_then, members_at, object_of, value_at, list_below, object_below, end_of, text_of}
 use Rattle.project_json.proofs.Lists.{value_at-is}
 use Rattle.project_json.proofs.Sizes.{blanks-le, piece-lt, pieces-lt, value-le}
 

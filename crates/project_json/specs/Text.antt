@@ -4,6 +4,10 @@ use Rattle.std.specs.Str.{IsUtf8}
 use Rattle.project_json.specs.Tree.{Tree}
 use Rattle.project_json.specs.Grammar.{IsJson}
 
+-- how deep brackets and braces may nest in a document that is read
+abbrev pub max_depth : ℕ
+max_depth = 256
+
 -- the bytes are UTF-8 (RFC 3629) and a JSON text that stands for the tree, nested at most n deep
 abbrev pub IsText : ℕ → List ℕ → Tree → Type 0
 IsText n bytes t = IsUtf8 bytes × IsJson n bytes t

@@ -6,6 +6,8 @@ ghost use Rattle.project_json.specs.View.{tree, trees_in, field, fields_in};
 
 use crate::text::{Decimal, Text};
 
+mod copies;
+
 /// A JSON value (RFC 8259 section 3). Contracts see it as its `tree`.
 #[cycle(json)]
 #[derive(Debug, Drop)]
@@ -42,7 +44,8 @@ pub struct Members {
 }
 
 impl Items {
-    pub(crate) fn new(items: Vec<Json>) -> Items
+    /// The list of these items. It takes no memory.
+    pub fn new(items: Vec<Json>) -> Items
         ensures { trees_in result ≡ trees_of (map tree items.items) }
     {
         Items { items }

@@ -19,10 +19,10 @@ pub use json::{Items, Json, Member, Members};
 pub use laws::{
     later_value_is_found, no_more_than_bytes, one_fault, one_tree, text_has_no_fault, text_or_fault,
 };
-pub use parts::{digits_of, is_null, items_of, member, members_of, text_of, truth_of};
+pub use parts::{digits_of, is_null, items_of, member, members_of, text_of, truth_of, value_named};
 pub use reading::read;
 pub use refusal::JsonRefusal;
-pub use text::{Decimal, Text};
+pub use text::{Decimal, Text, Texts};
 
 #[cfg(test)]
 mod tests;

@@ -8,8 +8,8 @@ ghost use Rattle.project_json.specs.View.{tree, field};
 use crate::json::{Json, Member};
 use crate::text::Text;
 
-// The value of the first member with the name.
-fn value_named<'a>(members: &'a [Member], name: &str) -> Option<&'a Json>
+/// The value of the first member with the name. `None` where none has it.
+pub fn value_named<'a>(members: &'a [Member], name: &str) -> Option<&'a Json>
     ensures { option_map (λ j. tree j.now) result ≡ value_named name.now (map field members.now) }
 {
     for member in members {

@@ -4,7 +4,7 @@ ghost use Rattle.std.specs.Prelude.{◌≡◌, ◌≤◌, map, [], length, Resul
 ghost use Rattle.project_json.specs.Reading.{Gives, Utf8, value_with, value_at, list_below, item_at, items_at, object_below, member_at, members_at, text_of};
 ghost use Rattle.project_json.specs.Refusal.{IsFault, IsCause, IsOrNoMemory};
 ghost use Rattle.project_json.specs.Size.{size_of};
-ghost use Rattle.project_json.specs.Text.{IsText};
+ghost use Rattle.project_json.specs.Text.{IsText, max_depth};
 ghost use Rattle.project_json.specs.Tree.{Tree};
 ghost use Rattle.project_json.specs.View.{tree, field};
 
@@ -18,7 +18,7 @@ use crate::strings::{chars_of, name_of};
 use crate::text::Text;
 use std::alloc::Global;
 
-/// How deep brackets and braces may nest.
+/// How deep the brackets and braces of a document may nest.
 const MAX_DEPTH: u32 = 256;
 
 // A value, with at most so many brackets open at once, and the bytes after it.
@@ -174,7 +174,7 @@ fn members(alloc: Global, depth: u32, bytes: &[u8]) -> Result<(Vec<Member>, &[u8
 #[tactic(auto, using(crate::proofs::Lists::text_rules))]
 fn text(alloc: Global, bytes: &[u8]) -> Result<Json, Stop>
     requires { Utf8 bytes.now }
-    ensures { Gives tree result (text_of 256 bytes.now) }
+    ensures { Gives tree result (text_of max_depth bytes.now) }
 {
     let (value, rest) = value(alloc, MAX_DEPTH, skip(bytes))?;
     let rest = skip(rest);
@@ -187,10 +187,10 @@ fn text(alloc: Global, bytes: &[u8]) -> Result<Json, Stop>
 // Reads one JSON text of UTF-8.
 fn of_utf8(alloc: Global, bytes: &[u8]) -> Result<Json, JsonRefusal>
     requires { Utf8 bytes.now }
-    ensures found { IfOk result (λ t. IsText 256 bytes.now (tree t)) }
-    ensures only { (t : Tree) → IsText 256 bytes.now t → MatchResult result (λ read. tree read ≡ t) (λ e. e ≡ JsonRefusal.NoMemory) }
-    ensures refused { IfErr result (IsCause 256 bytes.now) }
-    ensures faulty { (r : JsonRefusal) → IsFault 256 bytes.now r → MatchResult result (λ _. ⊥) (IsOrNoMemory r) }
+    ensures found { IfOk result (λ t. IsText max_depth bytes.now (tree t)) }
+    ensures only { (t : Tree) → IsText max_depth bytes.now t → MatchResult result (λ read. tree read ≡ t) (λ e. e ≡ JsonRefusal.NoMemory) }
+    ensures refused { IfErr result (IsCause max_depth bytes.now) }
+    ensures faulty { (r : JsonRefusal) → IsFault max_depth bytes.now r → MatchResult result (λ _. ⊥) (IsOrNoMemory r) }
     ensures small { IfOk result (λ t. size_of (tree t) ≤ length bytes.now) }
 {
     let length = bytes.len();
@@ -211,13 +211,13 @@ fn of_utf8(alloc: Global, bytes: &[u8]) -> Result<Json, JsonRefusal>
 /// place in bytes.
 pub fn read(alloc: Global, bytes: &[u8]) -> Result<Json, JsonRefusal>
     // What is read is a JSON text of that tree.
-    ensures found { IfOk result (λ t. IsText 256 bytes.now (tree t)) }
+    ensures found { IfOk result (λ t. IsText max_depth bytes.now (tree t)) }
     // A JSON text is read as its tree, unless memory runs out.
-    ensures only { (t : Tree) → IsText 256 bytes.now t → MatchResult result (λ read. tree read ≡ t) (λ e. e ≡ JsonRefusal.NoMemory) }
+    ensures only { (t : Tree) → IsText max_depth bytes.now t → MatchResult result (λ read. tree read ≡ t) (λ e. e ≡ JsonRefusal.NoMemory) }
     // A refusal tells a fault of the bytes at its place, or want of memory.
-    ensures refused { IfErr result (IsCause 256 bytes.now) }
+    ensures refused { IfErr result (IsCause max_depth bytes.now) }
     // Bytes with a fault are refused for it, unless memory runs out.
-    ensures faulty { (r : JsonRefusal) → IsFault 256 bytes.now r → MatchResult result (λ _. ⊥) (IsOrNoMemory r) }
+    ensures faulty { (r : JsonRefusal) → IsFault max_depth bytes.now r → MatchResult result (λ _. ⊥) (IsOrNoMemory r) }
     // A tree has no more members and items than its text has bytes.
     ensures small { IfOk result (λ t. size_of (tree t) ≤ length bytes.now) }
 {

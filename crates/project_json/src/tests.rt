@@ -1,10 +1,11 @@
 //! Worked texts with their trees, and worked faults with their places.
 
 use crate::{
-    Json, JsonRefusal, Text, digits_of, is_null, items_of, later_value_is_found, member,
-    members_of, no_more_than_bytes, one_fault, one_tree, read, text_has_no_fault, text_of,
-    text_or_fault, truth_of,
+    Items, Json, JsonRefusal, Text, Texts, digits_of, is_null, items_of, later_value_is_found,
+    member, members_of, no_more_than_bytes, one_fault, one_tree, read, text_has_no_fault, text_of,
+    text_or_fault, truth_of, value_named,
 };
+use lists::ListOf;
 use std::alloc::Global;
 use std::process::Abort;
 use std::test::Fail;
@@ -84,6 +85,54 @@ fn makes_texts(rt: HostRuntime) -> Result<(), Fail> {
     assert_eq!(rt; text.as_str(), "flag");
     assert!(rt; text == text.clone()?);
     assert!(rt; text != empty);
+    Ok(())
+}
+
+#[test]
+fn takes_strings_over(rt: HostRuntime) -> Result<(), Fail> {
+    let string = String::from_str(rt.alloc(), "na\u{ef}ve")?;
+    let text = Text::from_string(string);
+    assert_eq!(rt; text.as_str(), "na\u{ef}ve");
+    let mut texts: Texts = ListOf::new(rt.alloc());
+    texts.push(text)?;
+    let copy = texts.clone()?;
+    assert_eq!(rt; copy.len(), 1);
+    assert!(rt; copy.iter().all(|text| text.as_str() == "na\u{ef}ve"));
+    Ok(())
+}
+
+#[test]
+fn copies_documents(rt: HostRuntime) -> Result<(), Fail> {
+    let json = read(
+        rt.alloc(),
+        br#"{"a":[null,true,-1.50,"x",[],{}],"b":{"c":"d","e":0}}"#,
+    )?;
+    let copy = json.clone()?;
+    assert_eq!(rt; members_of(&copy).ok_or("members")?.len(), 2);
+    let items = items_of(member(&copy, "a").ok_or("a")?).ok_or("items")?;
+    assert_eq!(rt; items.len(), 6);
+    assert!(rt; is_null(&items[0]));
+    assert_eq!(rt; truth_of(&items[1]), Some(true));
+    assert_eq!(rt; digits_of(&items[2]).ok_or("digits")?.as_str(), "-1.50");
+    assert_eq!(rt; text_of(&items[3]).ok_or("text")?.as_str(), "x");
+    assert_eq!(rt; items_of(&items[4]).ok_or("items")?.len(), 0);
+    assert_eq!(rt; members_of(&items[5]).ok_or("members")?.len(), 0);
+    let inner = members_of(member(&copy, "b").ok_or("b")?).ok_or("members")?;
+    let value = value_named(inner, "c").ok_or("c")?;
+    assert_eq!(rt; text_of(value).ok_or("text")?.as_str(), "d");
+    assert!(rt; value_named(inner, "f").is_none());
+    Ok(())
+}
+
+#[test]
+fn makes_lists(rt: HostRuntime) -> Result<(), Fail> {
+    let mut items = Vec::new(rt.alloc());
+    items.push(Json::Truth(false))?;
+    items.push(Json::Text(Text::from_str(rt.alloc(), "x")?))?;
+    let list = Json::List(Items::new(items));
+    let held = items_of(&list).ok_or("items")?;
+    assert_eq!(rt; held.len(), 2);
+    assert_eq!(rt; truth_of(&held[0]), Some(false));
     Ok(())
 }
 

@@ -1,12 +1,16 @@
 //! Texts and numbers of a document.
 
-ghost use Rattle.std.specs.Prelude.{◌≡◌, [], bytes_eq, IfOk};
+ghost use Rattle.std.specs.Prelude.{◌≡◌, [], bytes_eq, string_bytes, IfOk};
 ghost use Rattle.std.specs.Cmp.{partial_equiv_from_equiv};
 ghost use Rattle.std.specs.Cmp.Lexicographic.{nat_list_eq_equiv};
 ghost use Rattle.project_json.specs.Reading.{Utf8};
 
+use lists::ListOf;
 use std::alloc::{AllocError, Global};
 use std::marker::Model;
+
+/// Texts, in order.
+pub type Texts = ListOf<Text>;
 
 /// A text. Contracts see it as the list of its bytes, which are UTF-8.
 #[derive(Debug, Drop)]
@@ -39,6 +43,13 @@ impl Text {
         Ok(Text {
             text: String::from_str(alloc, text)?,
         })
+    }
+
+    /// The text of a string, which it takes over. It takes no memory.
+    pub fn from_string(text: String) -> Text
+        ensures { result ≡ string_bytes text }
+    {
+        Text { text }
     }
 
     /// The text of these bytes.
@@ -95,6 +106,16 @@ impl Model for Decimal {
     ghost Value = { List ℕ };
 
     ghost view = { λ a. a.digits };
+}
+
+impl Clone for Decimal {
+    ghost is_clone = { λ s t. t ≡ s };
+
+    fn clone(&self) -> Result<Decimal, AllocError> {
+        Ok(Decimal {
+            digits: self.digits.clone()?,
+        })
+    }
 }
 
 impl Decimal {

@@ -1,0 +1,6 @@
+pub mod Places
+pub mod Ways
+pub mod Reads
+pub mod Shapes
+pub mod Each
+pub mod Example
