@@ -77,6 +77,7 @@ has_role wanted c = is_role (role_of c)
     same role.Command role.Command = true
     same role.Reporter role.Reporter = true
     same a b = false
+
     is_role : Option Role → Bool
     is_role None = false
     is_role (Some r) = same wanted r

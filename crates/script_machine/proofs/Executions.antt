@@ -19,7 +19,7 @@ go_on-same true f g last w same = same w
 go_on-same false f g last w same = refl
 
 behind-same : {W : Type 0} (e : Executing W) (budget m : ℕ) (before : Bool) (f g : W → Outcome W) (x : Moment W)
-  → ((v : W) → f v ≡ g v) → behind e budget m before f x ≡ behind e budget m before g x
+    → ((v : W) → f v ≡ g v) → behind e budget m before f x ≡ behind e budget m before g x
 behind-same e budget m before f g x same =
     go_on-same (slice_goes_on x.report before (e.flag x.world) (is_late budget m)) f g (λ w. Goes w) x.world same
 
@@ -34,12 +34,12 @@ module _ {W : Type 0} (e : Executing W) (budget : ℕ) where
       (λ x. behind-same e budget (counted_after m (e.flag w)) (e.flag w) _ _ x (λ v. slice-executions n (counted_after m (e.flag w)) v))
 
   pub executions-join : (n more m : ℕ) (w : W) (rest : ℕ → W → Outcome W)
-    → executions e budget (n + more) m w rest ≡ executions e budget n m w (λ k v. executions e budget more k v rest)
+      → executions e budget (n + more) m w rest ≡ executions e budget n m w (λ k v. executions e budget more k v rest)
   unfolding executions
   executions-join zero more m w rest = ap (λ k. executions e budget k m w rest) (zero-add more)
   executions-join (suc n) more m w rest =
       ap (λ k. executions e budget k m w rest) (suc-add n more)
       ∙ then_do-same (e.execute (is_late budget m) w)
-        (behind e budget (counted_after m (e.flag w)) (e.flag w) (λ v. executions e budget (n + more) (counted_after m (e.flag w)) v rest))
-        (behind e budget (counted_after m (e.flag w)) (e.flag w) (λ v. executions e budget n (counted_after m (e.flag w)) v (λ k u. executions e budget more k u rest)))
-        (λ x. behind-same e budget (counted_after m (e.flag w)) (e.flag w) _ _ x (λ v. executions-join n more (counted_after m (e.flag w)) v rest))
+      (behind e budget (counted_after m (e.flag w)) (e.flag w) (λ v. executions e budget (n + more) (counted_after m (e.flag w)) v rest))
+      (behind e budget (counted_after m (e.flag w)) (e.flag w) (λ v. executions e budget n (counted_after m (e.flag w)) v (λ k u. executions e budget more k u rest)))
+      (λ x. behind-same e budget (counted_after m (e.flag w)) (e.flag w) _ _ x (λ v. executions-join n more (counted_after m (e.flag w)) v rest))

@@ -18,7 +18,7 @@ room : {A : Type 0} (n : ℕ) (x : A) → IfGoes (with_room n x) (λ y. y ≡ x)
 room n x = room_by (nat_lt n most_levels) x
 
 pub act-position : (p : Program) (i : ℕ) (late : Bool) (t : Task) (s : Statement) (r : List Item) (control : Control) (c : Context) (w : World Task)
-  → is_own control ≡ true → IfGoes (act p i late t s r control c w) (λ m. m ≡ moved i (position p late t.warp s r control c) w)
+    → is_own control ≡ true → IfGoes (act p i late t s r control c w) (λ m. m ≡ moved i (position p late t.warp s r control c) w)
 act-position p i late t s r Next c w own = refl
 act-position p i late t s r (Branch n is_loop) c w own = room (levels w) _
 act-position p i late t s r Yield c w own = refl

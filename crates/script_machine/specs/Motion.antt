@@ -119,7 +119,7 @@ pointed name records d here p =
     if bytes_eq name (codes "_random_")
     then then_do (draw p.words) (λ w. Goes (moved Next Fresh (facing (scattered 360 w.value)) here (with_words w.words p)))
     else then_do (point_named name records d p) (λ q.
-      Goes (moved_by (option_map facing (direction_towards (instance_at here p.targets) q.value)) here (with_words q.words p)))
+    Goes (moved_by (option_map facing (direction_towards (instance_at here p.targets) q.value)) here (with_words q.words p)))
 
 abbrev pub sprite_row : Records → Devices → Opcode → Arguments → ℕ → Context → MotionParts → Outcome (Row MotionParts)
 sprite_row records d MotionGoTo a here c p =

@@ -24,7 +24,10 @@ pub enum Context {
     /// The turns that are left.
     Repeat(Count),
     /// When the wait began, and how long it lasts.
-    Wait { start: u64, duration: Num },
+    Wait {
+        start: u64,
+        duration: Num,
+    },
     /// When the glide began, how long it lasts, and its two ends.
     Glide {
         start: u64,
@@ -69,10 +72,7 @@ pub enum Control {
     /// Wait until a promise ends.
     Promise,
     /// Enter the procedure with this definition.
-    Call {
-        definition: BlockId,
-        params: Params,
-    },
+    Call { definition: BlockId, params: Params },
     /// End the procedure, or the thread where none is open.
     StopThis,
     /// End the other threads of the instance.
