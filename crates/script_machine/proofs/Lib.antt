@@ -4,3 +4,4 @@ pub mod Rows
 pub mod Moves
 pub mod Passes
 pub mod Executions
+pub mod WorkedRows
