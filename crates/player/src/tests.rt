@@ -323,11 +323,18 @@ fn a_name_keeps_the_blanks_at_its_ends(rt: HostRuntime) -> Result<(), Fail> {
     files.push(" p ", base.as_bytes())?;
     files.push("s", b"frame 0 1 0\n")?;
     let mut shelf = MemoryShelf::new(alloc, files, Numbers::new(alloc));
-    let mut words = words(alloc, "s")?;
-    let status = play(alloc, &words, &mut shelf, &mut SteadySink::new(alloc));
+    let status = play(
+        alloc,
+        &words(alloc, "s")?,
+        &mut shelf,
+        &mut SteadySink::new(alloc),
+    );
     assert!(rt; matches!(status, Status::ReadFault));
-    words[1] = String::from_str(alloc, " p ")?;
-    let status = play(alloc, &words, &mut shelf, &mut SteadySink::new(alloc));
+    let mut blanks = Vec::new(alloc);
+    for word in ["play", " p ", "s", "1", "-"] {
+        blanks.push(String::from_str(alloc, word)?)?;
+    }
+    let status = play(alloc, &blanks, &mut shelf, &mut SteadySink::new(alloc));
     assert!(rt; matches!(status, Status::Done));
     Ok(())
 }
