@@ -8,3 +8,4 @@ pub mod Resolving
 pub mod Trees
 pub mod TreeAt
 pub mod Reading
+pub mod Refusals

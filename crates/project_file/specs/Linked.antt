@@ -1,4 +1,4 @@
--- Which projects are well linked: links, checked scripts, what each block has to have, and how deep reporters nest.
+-- Links, checked scripts, what each block has to have, and how deep reporters nest.
 use Rattle.std.specs.Prelude.{◌≡◌, ℕ, ◌+◌, Bool, true, false, not, ◌&&◌, ◌||◌, ◌==◌, if◌then◌else◌, List, [], ◌∷◌, ◌++◌, length, flat_map, find, take, slice_get, bytes_eq, codes, Option, None, Some, option_map, IsTrue, Contains}
 use Rattle.std.specs.List.{list_any}
 use Rattle.opcode_table.specs.declared.opcode.Opcode.{Opcode}

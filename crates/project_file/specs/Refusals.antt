@@ -1,0 +1,132 @@
+-- Which project files are accepted, and why another is refused: by the first fault, in the order of the tests.
+use Rattle.std.specs.Prelude.{◌≡◌, ◌≢◌, ◌⊎◌, ◌↔◌, ℕ, ◌<◌, Bool, true, List, [], ◌∷◌, flat_map, filter, map, slice_get, None, Some, Ok, Err, Contains}
+use Rattle.std.specs.List.{count_by, enumerate_from, All}
+use Rattle.project_json.specs.Tree.{Tree}
+use Rattle.project_json.specs.Text.{IsText, max_depth}
+use Rattle.project_json.specs.Refusal.{IsFault}
+use Rattle.project_json.specs.declared.refusal.JsonRefusal.{JsonRefusal}
+use Rattle.opcode_table.specs.Table.{row}
+use Rattle.script_machine.specs.Program.{Program}
+use Rattle.project_file.specs.declared.refusals.MutationRefusal.{MutationRefusal}
+use Rattle.project_file.specs.declared.refusals.At.{At}
+use Rattle.project_file.specs.declared.refusals.Refusal.{Refusal}
+use Rattle.project_file.specs.declared.refusals.Refusal.TheVariants as refusal
+use Rattle.project_file.specs.Blocks.{Code, Known, Other, Block, Unfit}
+use Rattle.project_file.specs.Limits.{too_many}
+use Rattle.project_file.specs.Linked.{dangling, IsCyclic, IsChecked, Nests, deepest, misfits, missing_input, unfit_field}
+use Rattle.project_file.specs.Reading.{File, Table, file_of}
+use Rattle.project_file.specs.Resolving.{Site, resolved_all}
+use Rattle.project_file.specs.Trees.{program}
+
+-- What is tested of the blocks
+
+-- in this order: mutations, links, cycles, places of checked blocks, their inputs, their fields, nesting of reporters
+pub data Test : Type 0 where
+  Mutations : Test
+  Links : Test
+  Cycles : Test
+  Places : Test
+  Inputs : Test
+  Fields : Test
+  Depth : Test
+
+abbrev pub tests : List Test
+tests = Mutations ∷ Links ∷ Cycles ∷ Places ∷ Inputs ∷ Fields ∷ Depth ∷ []
+
+abbrev pub opcode_name : Code → List ℕ
+opcode_name (Known op) = (row op).name
+opcode_name (Other name) = name
+
+-- a checked block leads to block k, which does not fit its place
+pub record IsMisfit (blocks : List Block) (k : ℕ) (b : Block) : Type 0 where
+  pub from : ℕ
+  pub leading : Block
+  pub checked : IsChecked blocks from
+  pub held : slice_get blocks from ≡ Some leading
+  pub unfit : Contains (misfits blocks leading) (k, b)
+
+-- the block fails a test, which is told so
+abbrev pub Fails : Test → List Block → At → Block → Refusal → Type 0
+Fails Mutations blocks at b r = (why : MutationRefusal) × (b.procedural ≡ Unfit why) × (r ≡ refusal.Mutation at why)
+Fails Links blocks at b r = (to : List ℕ) × (dangling b ≡ Some to) × (r ≡ refusal.Dangling at to)
+Fails Cycles blocks at b r = IsCyclic blocks at.block × (r ≡ refusal.Cyclic at)
+Fails Places blocks at b r = IsMisfit blocks at.block b × (r ≡ refusal.Opcode at (opcode_name b.code))
+Fails Inputs blocks at b r = (name : List ℕ) × IsChecked blocks at.block × (missing_input b ≡ Some name) × (r ≡ refusal.MissingInput at name)
+Fails Fields blocks at b r = (name : List ℕ) × IsChecked blocks at.block × (unfit_field b ≡ Some name) × (r ≡ refusal.Field at name)
+Fails Depth blocks at b r = (depth : ℕ) × Nests blocks at.block depth × (deepest < depth) × (r ≡ refusal.TooDeep at)
+
+-- a block of the file fails a test
+pub record FailsAt (tables : List Table) (test : Test) (at : At) (r : Refusal) : Type 0 where
+  pub table : Table
+  pub block : Block
+  pub target : slice_get tables at.target ≡ Some table
+  pub held : slice_get table.blocks at.block ≡ Some block
+  pub fails : Fails test table.blocks at block r
+
+-- in an earlier target, or earlier in the same one
+abbrev pub IsBefore : At → At → Type 0
+IsBefore a b = (a.target < b.target) ⊎ ((a.target ≡ b.target) × (a.block < b.block))
+
+-- the first block that fails a test, and what it is told
+pub record IsFirst (tables : List Table) (test : Test) (r : Refusal) : Type 0 where
+  pub at : At
+  pub fails : FailsAt tables test at r
+  pub first : (earlier : At) (other : Refusal) → IsBefore earlier at → FailsAt tables test earlier other → ⊥
+
+-- no block fails it
+abbrev pub Passes : List Table → Test → Type 0
+Passes tables test = (at : At) (r : Refusal) → FailsAt tables test at r → ⊥
+
+-- the first of the tests that a block fails
+abbrev pub IsFirstOf : List Table → List Test → Refusal → Type 0
+IsFirstOf tables [] r = ⊥
+IsFirstOf tables (t ∷ ts) r = IsFirst tables t r ⊎ (Passes tables t × IsFirstOf tables ts r)
+
+-- Files
+
+abbrev pub stage_count : File → ℕ
+stage_count f = count_by (λ t. t.is_stage) f.records.targets
+
+-- one stage, nothing too many, and no block fails a test
+pub record IsWell (f : File) : Type 0 where
+  pub stage : stage_count f ≡ 1
+  pub few : too_many f ≡ None
+  pub blocks : All (Passes f.tables) tests
+
+-- the number of stages first, then what is too many, then the blocks
+abbrev pub IsFileRefusal : File → Refusal → Type 0
+IsFileRefusal f r =
+    ((stage_count f ≢ 1) × (r ≡ refusal.StageCount (stage_count f)))
+    ⊎ ((stage_count f ≡ 1) × (((path : List ℕ) × (too_many f ≡ Some path) × (r ≡ refusal.TooMany path))
+    ⊎ ((too_many f ≡ None) × IsFirstOf f.tables tests r)))
+
+-- the bytes are no JSON text, or that of a document with a value that has not its shape, or of a file that is refused
+abbrev pub IsRefusal : List ℕ → Refusal → Type 0
+IsRefusal bytes r =
+    ((fault : JsonRefusal) × IsFault max_depth bytes fault × (r ≡ refusal.Json fault))
+    ⊎ ((t : Tree) × IsText max_depth bytes t × (((path : List ℕ) × (file_of t ≡ Err path) × (r ≡ refusal.Shape path))
+    ⊎ ((f : File) × (file_of t ≡ Ok f) × IsFileRefusal f r)))
+
+-- The program of a file
+
+-- the blocks for which a test of target and block holds, in target and block order
+abbrev pub sites_in : (ℕ → ℕ → Bool) → ℕ × Table → List Site
+sites_in test (t, table) = map (λ x. record { target = t; number = x.0; block = x.1 }) (filter (λ x. test t x.0) (enumerate_from 0 table.blocks))
+
+abbrev pub sites : (ℕ → ℕ → Bool) → List Table → List Site
+sites test tables = flat_map (sites_in test) (enumerate_from 0 tables)
+
+-- the program, where the names in checked blocks are resolved
+pub record IsProgram (f : File) (p : Program) : Type 0 where
+  pub test : ℕ → ℕ → Bool
+  pub checked : (t k : ℕ) (table : Table) → slice_get f.tables t ≡ Some table → ((test t k ≡ true) ↔ IsChecked table.blocks k)
+  pub is : p ≡ program f.tables (resolved_all f.records (sites test f.tables))
+
+-- the bytes of a project file that is accepted, and its program
+pub record IsProject (bytes : List ℕ) (p : Program) : Type 0 where
+  pub document : Tree
+  pub file : File
+  pub text : IsText max_depth bytes document
+  pub tells : file_of document ≡ Ok file
+  pub well : IsWell file
+  pub program : IsProgram file p
