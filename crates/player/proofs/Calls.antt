@@ -6,8 +6,8 @@ use Rattle.std.proofs.lemmas.Bool.Decides.{nat_tests}
 use Rattle.sv_channels.specs.Files.{Files}
 use Rattle.sv_channels.proofs.Gains.{Gained-nil}
 use Rattle.project_json.proofs.Results.{json_one_tree, text_no_fault, same_fault}
-use Rattle.block_table.specs.FirstProject.{Project}
-use Rattle.block_table.specs.FirstForm.{project_of}
+use Rattle.first_projects.specs.FirstProject.{Project}
+use Rattle.first_projects.specs.FirstForm.{project_of}
 use Rattle.sequencer.specs.Frame.{first_world}
 use Rattle.player.specs.Limits.{project_limit, script_limit, nesting_limit}
 use Rattle.player.specs.Command.{Form}

@@ -7,7 +7,7 @@ use Rattle.std.proofs.Math.Seq.{take-append-add}
 use Rattle.sv_channels.specs.Counts.{next_count}
 use Rattle.sv_channels.specs.Sink.{Gained}
 use Rattle.sv_channels.proofs.Gains.{Gained-trans}
-use Rattle.block_table.specs.FirstProject.{Project}
+use Rattle.first_projects.specs.FirstProject.{Project}
 use Rattle.sequencer.specs.World.{World}
 use Rattle.player.specs.declared.lines.Line.{Line}
 use Rattle.player.specs.Lines.{line_of}

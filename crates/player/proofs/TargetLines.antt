@@ -2,8 +2,8 @@
 use Rattle.std.proofs.Common.{◌≡◌, ℕ, ◌+◌, ◌<◌, List, ◌++◌, length, get_or, drop, Some, sym, ap, ◌∙◌, append_assoc}
 use Rattle.std.specs.Prelude.{slice_get}
 use Rattle.std.proofs.lemmas.List.{at_drop_more}
-use Rattle.block_table.specs.declared.first.types.FirstTarget.{FirstTarget}
-use Rattle.block_table.specs.FirstProject.{Project}
+use Rattle.first_projects.specs.declared.first.types.FirstTarget.{FirstTarget}
+use Rattle.first_projects.specs.FirstProject.{Project}
 use Rattle.player.specs.FrameText.{line_at, target_line, target_lines}
 
 pub targets_step : (p : Project) (order : List ℕ) (k : ℕ) (t : FirstTarget) (old new : List ℕ) → k < length order

@@ -2,7 +2,7 @@
 use Rattle.std.proofs.Common.{◌≡◌, ℕ, zero, suc, ◌+◌, ◌<◌, List, [], ◌∷◌, ◌++◌, ap, ◌∙◌, arith, append_assoc}
 use Rattle.std.specs.Prelude.{codes}
 use Rattle.std.specs.Fmt.{decimal, signed_decimal}
-use Rattle.block_table.specs.declared.first.types.FirstTarget.{FirstTarget}
+use Rattle.first_projects.specs.declared.first.types.FirstTarget.{FirstTarget}
 use Rattle.player.specs.FrameText.{line, quoted, style_text, shown_text, costume_text, target_line}
 use Rattle.player.specs.SpriteLine.{sprite_front}
 

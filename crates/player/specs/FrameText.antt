@@ -1,13 +1,13 @@
 -- The text of a frame.
 use Rattle.std.specs.Prelude.{ℕ, zero, suc, ◌+◌, ◌==◌, List, [], ◌∷◌, ◌++◌, Bool, true, false, Option, None, Some, slice_get, slice_index_or, codes, if◌then◌else◌}
 use Rattle.std.specs.Fmt.{decimal, signed_decimal}
-use Rattle.block_table.specs.declared.style.Style.{Style}
-use Rattle.block_table.specs.declared.style.Style.TheVariants.{AllAround, LeftRight, DontRotate}
-use Rattle.block_table.specs.declared.first.types.FirstTarget.{FirstTarget}
-use Rattle.block_table.specs.declared.first.types.FirstVariable.{FirstVariable}
-use Rattle.block_table.specs.declared.first.types.FirstMonitor.{FirstMonitor}
-use Rattle.block_table.specs.FirstProject.{Project}
-use Rattle.block_table.specs.FirstOrder.{executable_order}
+use Rattle.first_projects.specs.declared.style.Style.{Style}
+use Rattle.first_projects.specs.declared.style.Style.TheVariants.{AllAround, LeftRight, DontRotate}
+use Rattle.first_projects.specs.declared.first.types.FirstTarget.{FirstTarget}
+use Rattle.first_projects.specs.declared.first.types.FirstVariable.{FirstVariable}
+use Rattle.first_projects.specs.declared.first.types.FirstMonitor.{FirstMonitor}
+use Rattle.first_projects.specs.FirstProject.{Project}
+use Rattle.first_projects.specs.FirstOrder.{executable_order}
 use Rattle.sequencer.specs.World.{Value, text_of, World}
 
 -- a byte of a quoted text: backslash, quote, line feed and carriage return are escaped

@@ -1,6 +1,6 @@
 -- The output of a run: what the lines of a script write, one after another, and how it ends.
 use Rattle.std.specs.Prelude.{ℕ, ◌+◌, List, [], ◌∷◌, ◌++◌, Option, None, Some}
-use Rattle.block_table.specs.FirstProject.{Project}
+use Rattle.first_projects.specs.FirstProject.{Project}
 use Rattle.sequencer.specs.World.{World}
 use Rattle.sequencer.specs.Frame.{frame, flag_line}
 use Rattle.player.specs.Lines.{line_of}

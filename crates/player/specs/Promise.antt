@@ -14,8 +14,8 @@ use Rattle.project_json.specs.Text.{IsText}
 use Rattle.project_json.specs.Refusal.{IsFault}
 use Rattle.project_json.specs.declared.refusal.JsonRefusal.{JsonRefusal}
 use Rattle.project_json.specs.declared.refusal.JsonRefusal.TheVariants as json_refusal
-use Rattle.block_table.specs.FirstProject.{Project}
-use Rattle.block_table.specs.FirstForm.{project_of}
+use Rattle.first_projects.specs.FirstProject.{Project}
+use Rattle.first_projects.specs.FirstForm.{project_of}
 use Rattle.sequencer.specs.Frame.{first_world}
 use Rattle.player.specs.Limits.{project_limit, script_limit, nesting_limit}
 use Rattle.player.specs.Command.{Form, play, command_of}

@@ -1,7 +1,7 @@
 -- Helpers of private functions: parts of the line of a sprite.
 use Rattle.std.specs.Prelude.{ℕ, List, [], ◌∷◌, ◌++◌, codes}
 use Rattle.std.specs.Fmt.{decimal, signed_decimal}
-use Rattle.block_table.specs.declared.first.types.FirstTarget.{FirstTarget}
+use Rattle.first_projects.specs.declared.first.types.FirstTarget.{FirstTarget}
 use Rattle.player.specs.FrameText.{quoted, shown_text}
 
 -- place, direction and size, each with a space

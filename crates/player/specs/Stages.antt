@@ -6,7 +6,7 @@ use Rattle.sv_channels.specs.Counts.{NoneRose}
 use Rattle.sv_channels.specs.Files.{Files}
 use Rattle.sv_channels.specs.Shelf.{IsHeld, IsHeldAbove}
 use Rattle.sv_channels.specs.Sink.{Gained, GainedPart}
-use Rattle.block_table.specs.FirstProject.{Project}
+use Rattle.first_projects.specs.FirstProject.{Project}
 use Rattle.player.specs.Output.{RunEnding, whole, bad_line}
 use Rattle.player.specs.Promise.{Loads, not_json, not_first_form, loaded, counted}
 use Rattle.player.specs.declared.status.Which.{Which}

@@ -2,12 +2,12 @@
 
 ghost use Rattle.std.specs.Prelude.{◌≡◌, ℕ, Some, ◌+◌, ◌<◌, ◌++◌, [], ◌∷◌, codes, OnOk, IfOk, length, slice_get};
 ghost use Rattle.std.specs.Fmt.{decimal, signed_decimal};
-ghost use Rattle.block_table.specs.FirstOrder.{executable_order};
+ghost use Rattle.first_projects.specs.FirstOrder.{executable_order};
 ghost use Rattle.sequencer.specs.FirstRun.{world_of, IsRunOf};
 ghost use Rattle.player.specs.FrameText.{escaped, quoted, style_text, shown_text, costume_text, target_line, target_lines, monitor_line, shown_monitor, monitor_lines, head_line, frame_text, line};
 ghost use Rattle.player.specs.SpriteLine.{look_text, sprite_front};
 
-use block_table::{FirstMonitor, FirstProject, FirstTarget, Style};
+use first_projects::{FirstMonitor, FirstProject, FirstTarget, Style};
 use project_json::Text;
 use sequencer::FirstRun;
 use std::alloc::{AllocError, Global};

@@ -20,7 +20,7 @@ use crate::frame_text::frame_text;
 use crate::lines::Line;
 use crate::script::Script;
 use crate::status::{Refusal, Status, Which};
-use block_table::{FirstProject, FirstRefusal, first_form};
+use first_projects::{FirstProject, FirstRefusal, first_form};
 use project_json::{JsonRefusal, Text, read};
 use sequencer::{Budget, FirstRun};
 use std::alloc::Global;

@@ -5,6 +5,9 @@ pub use Rattle.project_file.specs.declared.blocks.Code.{Code}
 pub use Rattle.project_file.specs.declared.blocks.Code.TheVariants.{Known, Other}
 pub use Rattle.project_file.specs.declared.blocks.Input.{Input}
 pub use Rattle.project_file.specs.declared.blocks.Input.TheVariants as input
+pub use Rattle.project_file.specs.declared.blocks.Mutation.{Mutation}
+pub use Rattle.project_file.specs.declared.blocks.Mutation.TheVariants as mutation
+pub use Rattle.project_file.specs.declared.blocks.Block.{Block}
 use Rattle.std.specs.Prelude.{ℕ, nat_lt, pos, ◌*ℤ◌, Bool, true, false, if◌then◌else◌, List, [], ◌∷◌, length, map, position, slice_get, bytes_eq, codes, Option, None, Some, option_map, Result, Ok, Err}
 use Rattle.std.specs.List.{list_any}
 use Rattle.std.specs.Ordering.{is_eq}
@@ -25,22 +28,6 @@ use Rattle.project_file.specs.declared.refusals.MutationRefusal.{MutationRefusal
 use Rattle.project_file.specs.declared.refusals.MutationRefusal.TheVariants.{Missing}
 use Rattle.project_file.specs.Values.{num, value, field_text}
 use Rattle.project_file.specs.Mutation.{Prototype, prototype_in, call_in}
-
--- what a block says of a procedure
-pub data Procedural : Type 0 where
-  NoProcedure : Procedural
-  Declares : (prototype : Prototype) → Procedural
-  Calls : (code : List ℕ) → Procedural
-  Unfit : (refusal : MutationRefusal) → Procedural
-
-pub record Block : Type 0 where
-  pub code : Code
-  pub next : Option Link
-  pub inputs : List (List ℕ × Input)
-  pub fields : List (List ℕ × VarName)
-  pub shadow : Bool
-  pub top_level : Bool
-  pub procedural : Procedural
 
 -- the names of the blocks of a target
 abbrev pub Ids : Type 0
@@ -140,20 +127,20 @@ code_named name = code_by (of_name name)
     code_by (Some op) = Known op
 
 -- what a prototype and a call say; every other block says nothing
-abbrev pub prototype_by : Result Prototype MutationRefusal → Procedural
-prototype_by (Ok q) = Declares q
-prototype_by (Err refusal) = Unfit refusal
+abbrev pub prototype_by : Result Prototype MutationRefusal → Mutation
+prototype_by (Ok q) = mutation.Prototype q
+prototype_by (Err refusal) = mutation.Bad refusal
 
-abbrev pub call_by : Result (List ℕ) MutationRefusal → Procedural
-call_by (Ok code) = Calls code
-call_by (Err refusal) = Unfit refusal
+abbrev pub call_by : Result (List ℕ) MutationRefusal → Mutation
+call_by (Ok code) = mutation.Call code
+call_by (Err refusal) = mutation.Bad refusal
 
-abbrev pub procedural : Code → Option Tree → Procedural
-procedural (Known ProceduresPrototype) None = Unfit Missing
-procedural (Known ProceduresPrototype) (Some t) = prototype_by (prototype_in t)
-procedural (Known ProceduresCall) None = Unfit Missing
-procedural (Known ProceduresCall) (Some t) = call_by (call_in t)
-procedural _ t = NoProcedure
+abbrev pub mutation_by : Code → Option Tree → Mutation
+mutation_by (Known ProceduresPrototype) None = mutation.Bad Missing
+mutation_by (Known ProceduresPrototype) (Some t) = prototype_by (prototype_in t)
+mutation_by (Known ProceduresCall) None = mutation.Bad Missing
+mutation_by (Known ProceduresCall) (Some t) = call_by (call_in t)
+mutation_by _ t = mutation.None
 
 -- a member that is an object, absent or null
 abbrev pub object_here : Reader Tree Tree
@@ -168,7 +155,7 @@ block_object ids at ms =
     shape.given shape.members [] (codes "fields") at ms >>= shape.each_member field_of (codes "fields" ∷ at) >>= (λ fields.
     shape.given shape.truth false (codes "shadow") at ms >>= (λ shadow.
     shape.given shape.truth false (codes "topLevel") at ms >>= (λ top_level.
-    shape.optional object_here (codes "mutation") at ms >>= (λ mutation.
+    shape.optional object_here (codes "mutation") at ms >>= (λ said.
     Ok (record {
       code = code_named opcode;
       next = option_map (link_to ids) next;
@@ -176,12 +163,12 @@ block_object ids at ms =
       fields = fields;
       shadow = shadow;
       top_level = top_level;
-      procedural = procedural (code_named opcode) mutation;
+      mutation = mutation_by (code_named opcode) said;
     }))))))))
 
 -- a block that is a list: a loose reporter of a variable, 12, or of a list, 13
 abbrev pub reporter : Opcode → List ℕ → VarName → Block
-reporter op field name = record { code = Known op; next = None; inputs = []; fields = (field, name) ∷ []; shadow = false; top_level = true; procedural = NoProcedure }
+reporter op field name = record { code = Known op; next = None; inputs = []; fields = (field, name) ∷ []; shadow = false; top_level = true; mutation = mutation.None }
 
 abbrev pub block_list : Reader (List Tree) Block
 block_list at ts =

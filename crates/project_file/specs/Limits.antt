@@ -12,8 +12,9 @@ use Rattle.script_machine.specs.declared.records.VariableRecord.{VariableRecord}
 use Rattle.script_machine.specs.declared.records.ListRecord.{ListRecord}
 use Rattle.script_machine.specs.declared.records.TargetRecord.{TargetRecord}
 use Rattle.script_machine.specs.DataRows.{most_items}
-use Rattle.project_file.specs.Blocks.{Input, Procedural, Declares, Block}
+use Rattle.project_file.specs.Blocks.{Input, Mutation, Block}
 use Rattle.project_file.specs.declared.blocks.Input.TheVariants as input
+use Rattle.project_file.specs.declared.blocks.Mutation.TheVariants as mutation
 use Rattle.project_file.specs.Reading.{Table, File}
 
 abbrev pub most_targets : ℕ
@@ -77,8 +78,8 @@ field_place (list ts) name at = codes "1" ∷ at
 field_place t name at = codes "0" ∷ name ∷ codes "fields" ∷ at
 
 -- the defaults of a prototype; those of an unfit one do not count
-abbrev pub default_measures : List (List ℕ) → Procedural → List Measure
-default_measures at (Declares q) = flat_map (value_measures (codes "argumentdefaults" ∷ codes "mutation" ∷ at)) q.defaults
+abbrev pub default_measures : List (List ℕ) → Mutation → List Measure
+default_measures at (mutation.Prototype q) = flat_map (value_measures (codes "argumentdefaults" ∷ codes "mutation" ∷ at)) q.defaults
 default_measures at _ = []
 
 abbrev pub block_measures : List (List ℕ) → (List ℕ × Tree) × Block → List Measure
@@ -86,7 +87,7 @@ block_measures at (m, b) =
     let here = m.0 ∷ at in
     flat_map (input_measures (codes "inputs" ∷ here)) b.inputs
     ++ (flat_map (λ f. measure (field_place m.1 f.0 here) (length f.1.name) longest ∷ []) b.fields
-    ++ default_measures here b.procedural)
+    ++ default_measures here b.mutation)
 
 abbrev pub table_measures : List (List ℕ) → Table → List Measure
 table_measures at table = flat_map (block_measures at) (zip table.members table.blocks)

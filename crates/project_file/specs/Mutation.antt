@@ -1,5 +1,6 @@
 -- What a procedure's prototype and a call say of it, in their `mutation` (after scratch-vm, serialization/sb3.js and
 -- engine/blocks.js). The lists of ids, names and defaults stand there as JSON texts.
+pub use Rattle.project_file.specs.declared.blocks.Prototype.{Prototype}
 use Rattle.std.specs.Prelude.{ℕ, ◌==◌, ◌&&◌, ◌||◌, Bool, true, false, if◌then◌else◌, List, [], ◌∷◌, length, map, bytes_eq, codes, replicate, Option, None, Some, Result, Ok, Err}
 use Rattle.std.specs.Option.{option_and_then}
 use Rattle.project_json.specs.Tree.{Tree, null, truth, text}
@@ -11,14 +12,6 @@ use Rattle.shapes.specs.Shapes.{present}
 use Rattle.project_file.specs.declared.refusals.MutationRefusal.{MutationRefusal}
 use Rattle.project_file.specs.declared.refusals.MutationRefusal.TheVariants.{Missing, BadText, LengthsDiffer}
 use Rattle.project_file.specs.Values.{value}
-
--- a procedure's code, the ids and names of its arguments, their defaults, and whether it runs without screen refresh
-pub record Prototype : Type 0 where
-  pub code : List ℕ
-  pub ids : List (List ℕ)
-  pub names : List (List ℕ)
-  pub defaults : List Value
-  pub warp : Bool
 
 -- goes on with what was read; the first refusal stays
 infixl 10 ◌>>>◌

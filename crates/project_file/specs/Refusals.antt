@@ -11,7 +11,8 @@ use Rattle.project_file.specs.declared.refusals.MutationRefusal.{MutationRefusal
 use Rattle.project_file.specs.declared.refusals.At.{At}
 use Rattle.project_file.specs.declared.refusals.Refusal.{Refusal}
 use Rattle.project_file.specs.declared.refusals.Refusal.TheVariants as refusal
-use Rattle.project_file.specs.Blocks.{Code, Known, Other, Block, Unfit}
+use Rattle.project_file.specs.Blocks.{Code, Known, Other, Block}
+use Rattle.project_file.specs.declared.blocks.Mutation.TheVariants as mutation
 use Rattle.project_file.specs.Limits.{too_many}
 use Rattle.project_file.specs.Linked.{dangling, IsCyclic, IsChecked, Nests, deepest, misfits, missing_input, unfit_field}
 use Rattle.project_file.specs.Reading.{File, Table, file_of}
@@ -47,7 +48,7 @@ pub record IsMisfit (blocks : List Block) (k : ℕ) (b : Block) : Type 0 where
 
 -- the block fails a test, which is told so
 abbrev pub Fails : Test → List Block → At → Block → Refusal → Type 0
-Fails Mutations blocks at b r = (why : MutationRefusal) × (b.procedural ≡ Unfit why) × (r ≡ refusal.Mutation at why)
+Fails Mutations blocks at b r = (why : MutationRefusal) × (b.mutation ≡ mutation.Bad why) × (r ≡ refusal.Mutation at why)
 Fails Links blocks at b r = (to : List ℕ) × (dangling b ≡ Some to) × (r ≡ refusal.Dangling at to)
 Fails Cycles blocks at b r = IsCyclic blocks at.block × (r ≡ refusal.Cyclic at)
 Fails Places blocks at b r = IsMisfit blocks at.block b × (r ≡ refusal.Opcode at (opcode_name b.code))

@@ -12,8 +12,9 @@ use Rattle.scratch_values.specs.declared.names.VarRef.TheVariants.{Own}
 use Rattle.script_machine.specs.Script.{Fields, Refs, Expression, Constant, Variable, Contents, Operator, Expressions, NoInput, AndInput, Command, Script, End, Then, Statement, Does, Branches, NoBranch, AndBranch}
 use Rattle.script_machine.specs.Program.{Head, Procedure, Scripts, Program}
 use Rattle.project_file.specs.Mutation.{Prototype}
-use Rattle.project_file.specs.Blocks.{Link, To, Unknown, Code, Known, Other, Input, Procedural, Declares, Calls, Block}
+use Rattle.project_file.specs.Blocks.{Link, To, Unknown, Code, Known, Other, Input, Mutation, Block}
 use Rattle.project_file.specs.declared.blocks.Input.TheVariants as input
+use Rattle.project_file.specs.declared.blocks.Mutation.TheVariants as mutation
 use Rattle.project_file.specs.Linked.{is_branch, custom_block, is_head, has_role, named}
 use Rattle.project_file.specs.Resolving.{Resolved, Resolving, ref_at}
 use Rattle.project_file.specs.Reading.{Table}
@@ -119,8 +120,8 @@ abbrev pub branches_by : (Option ℕ → Script) → List (List ℕ × Option �
 branches_by go [] = NoBranch
 branches_by go ((name, first) ∷ more) = AndBranch name (go first) (branches_by go more)
 
-abbrev pub call_code : Procedural → List ℕ
-call_code (Calls code) = code
+abbrev pub call_code : Mutation → List ℕ
+call_code (mutation.Call code) = code
 call_code _ = []
 
 -- a block whose opcode is not known stands in no checked script; its statement is that of a prototype, which does nothing
@@ -129,7 +130,7 @@ op_by (Known op) = op
 op_by (Other name) = ProceduresPrototype
 
 abbrev pub command_by : Sheet → ℕ → Block → Command
-command_by sheet k b = record { op = op_by b.code; fields = fields_of b; refs = refs_from sheet k b.fields; code = call_code b.procedural }
+command_by sheet k b = record { op = op_by b.code; fields = fields_of b; refs = refs_from sheet k b.fields; code = call_code b.mutation }
 
 abbrev pub statement_by : Sheet → ℕ → Block → (ℕ → Expression) → (Option ℕ → Script) → Statement
 statement_by sheet k b value go =
@@ -176,10 +177,10 @@ heads_of sheet = filter_map (hat_at sheet) (enumerate_from 0 sheet.blocks)
 -- the prototype of a definition
 abbrev pub prototype_at : Option Block → Option Prototype
 prototype_at None = None
-prototype_at (Some c) = declared c.procedural
+prototype_at (Some c) = declared c.mutation
   where
-    declared : Procedural → Option Prototype
-    declared (Declares q) = Some q
+    declared : Mutation → Option Prototype
+    declared (mutation.Prototype q) = Some q
     declared _ = None
 
 abbrev pub linked_prototype : Sheet → Option Input → Option Prototype

@@ -6,9 +6,9 @@ use Rattle.std.proofs.lemmas.List.{reverse-append}
 use Rattle.std.proofs.lemmas.List.{at_drop_more}
 use Rattle.std.proofs.lemmas.List.Sums.{sum_by-append, sum_by-cons}
 use Rattle.std.proofs.lemmas.Option.{unwrap_or-slice_get}
-use Rattle.block_table.specs.declared.first.types.FirstTarget.{FirstTarget}
-use Rattle.block_table.specs.declared.first.types.FirstBlock.{FirstBlock}
-use Rattle.block_table.specs.FirstOrder.{Layered, layered_in, sprites_by_layer, stages, places, executable_order}
+use Rattle.first_projects.specs.declared.first.types.FirstTarget.{FirstTarget}
+use Rattle.first_projects.specs.declared.first.types.FirstBlock.{FirstBlock}
+use Rattle.first_projects.specs.FirstOrder.{Layered, layered_in, sprites_by_layer, stages, places, executable_order}
 
 -- each number is below this one
 abbrev pub Below : ℕ → List ℕ → Type 0

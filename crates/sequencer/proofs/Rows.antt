@@ -1,12 +1,12 @@
 -- Worked rows, computed by the definitions.
 use Rattle.std.specs.Prelude.{◌≡◌, ℕ, List, [], ◌∷◌, map, length, true, false, pos, Option, Some, None, codes, refl}
 use Rattle.std.specs.Fmt.{digits}
-use Rattle.block_table.specs.declared.style.Style.TheVariants.{AllAround}
-use Rattle.block_table.specs.declared.first.types.FirstBlock.{FirstBlock}
-use Rattle.block_table.specs.declared.first.types.FirstTarget.{FirstTarget}
-use Rattle.block_table.specs.declared.first.types.FirstCode.{FirstCode}
-use Rattle.block_table.specs.declared.first.types.FirstCode.TheVariants.{Flag, Set, Change}
-use Rattle.block_table.specs.FirstProject.{Project}
+use Rattle.first_projects.specs.declared.style.Style.TheVariants.{AllAround}
+use Rattle.first_projects.specs.declared.first.types.FirstBlock.{FirstBlock}
+use Rattle.first_projects.specs.declared.first.types.FirstTarget.{FirstTarget}
+use Rattle.first_projects.specs.declared.first.types.FirstCode.{FirstCode}
+use Rattle.first_projects.specs.declared.first.types.FirstCode.TheVariants.{Flag, Set, Change}
+use Rattle.first_projects.specs.FirstProject.{Project}
 use Rattle.scratch_values.specs.Value.{text_of}
 use Rattle.sequencer.specs.declared.budget.Budget.{Budget}
 use Rattle.sequencer.specs.Script.{statements_within, statements}

@@ -2,8 +2,8 @@
 use Rattle.std.proofs.Common.{◌≡◌, ℕ, ◌+◌, ◌≤◌, List, [], ◌∷◌, length, map, refl, sym, ap, ◌∙◌, subst, arith}
 use Rattle.std.specs.Prelude.{reverse, flat_map}
 use Rattle.std.proofs.lemmas.List.{length-map}
-use Rattle.block_table.specs.FirstProject.{Project}
-use Rattle.block_table.specs.FirstOrder.{executable_order}
+use Rattle.first_projects.specs.FirstProject.{Project}
+use Rattle.first_projects.specs.FirstOrder.{executable_order}
 use Rattle.scratch_values.specs.declared.value.Value.{Value}
 use Rattle.sequencer.specs.declared.budget.Budget.{Budget}
 use Rattle.sequencer.specs.declared.first.thread.FirstThread.{FirstThread}

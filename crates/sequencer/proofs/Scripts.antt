@@ -1,10 +1,10 @@
 -- Statements along links that lead to later blocks.
 use Rattle.std.proofs.Common.{◌≡◌, ℕ, zero, suc, ◌-◌, ◌<◌, ◌≤◌, List, [], length, Option, None, Some, refl, ap, ◌∙◌, arith}
 use Rattle.std.specs.Prelude.{slice_get}
-use Rattle.block_table.specs.declared.first.types.FirstBlock.{FirstBlock}
-use Rattle.block_table.specs.declared.first.types.FirstCode.{FirstCode}
-use Rattle.block_table.specs.declared.first.types.FirstCode.TheVariants.{Flag, Set, Change}
-use Rattle.block_table.specs.FirstProject.{AreLinked}
+use Rattle.first_projects.specs.declared.first.types.FirstBlock.{FirstBlock}
+use Rattle.first_projects.specs.declared.first.types.FirstCode.{FirstCode}
+use Rattle.first_projects.specs.declared.first.types.FirstCode.TheVariants.{Flag, Set, Change}
+use Rattle.first_projects.specs.FirstProject.{AreLinked}
 use Rattle.sequencer.specs.Script.{Statement, code_and, block_and, statements_within, statements}
 
 -- how many blocks stand from a link's block on

@@ -5,9 +5,9 @@ use Rattle.std.proofs.Math.Seq.{drop-cons}
 use Rattle.std.proofs.lemmas.Grind.{flat_map-append}
 use Rattle.std.proofs.lemmas.List.{at_drop_more, take_more, get_or-reverse, length-reverse}
 use Rattle.std.proofs.lemmas.List.Concat.{flat_map-cons}
-use Rattle.block_table.specs.declared.first.types.FirstBlock.{FirstBlock}
-use Rattle.block_table.specs.FirstProject.{Project, IsWell}
-use Rattle.block_table.specs.FirstOrder.{executable_order}
+use Rattle.first_projects.specs.declared.first.types.FirstBlock.{FirstBlock}
+use Rattle.first_projects.specs.FirstProject.{Project, IsWell}
+use Rattle.first_projects.specs.FirstOrder.{executable_order}
 use Rattle.scratch_values.specs.declared.value.Value.{Value}
 use Rattle.sequencer.specs.declared.first.thread.FirstThread.{FirstThread}
 use Rattle.sequencer.specs.Script.{statements}

@@ -1,7 +1,7 @@
 -- Values under statements.
 use Rattle.std.proofs.Common.{◌≡◌, ℕ, zero, suc, ◌<◌, List, [], ◌∷◌, length, get_or, set, refl, ap, ◌∙◌, arith}
-use Rattle.block_table.specs.declared.first.types.FirstCode.{FirstCode}
-use Rattle.block_table.specs.declared.first.types.FirstCode.TheVariants.{Flag, Set, Change}
+use Rattle.first_projects.specs.declared.first.types.FirstCode.{FirstCode}
+use Rattle.first_projects.specs.declared.first.types.FirstCode.TheVariants.{Flag, Set, Change}
 use Rattle.scratch_values.specs.declared.value.Value.{Value}
 use Rattle.sequencer.specs.Script.{Statement, set as set_to, change, code_and}
 use Rattle.sequencer.specs.Slice.{changed_at, executed}

@@ -1,6 +1,6 @@
 -- A run of a project of the first form, as it is kept: block numbers in place of statements.
 use Rattle.std.specs.Prelude.{◌≡◌, ℕ, ◌≤◌, List, length, map, false}
-use Rattle.block_table.specs.FirstProject.{Project, IsWell}
+use Rattle.first_projects.specs.FirstProject.{Project, IsWell}
 use Rattle.scratch_values.specs.declared.value.Value.{Value}
 use Rattle.sequencer.specs.declared.first.thread.FirstThread.{FirstThread}
 use Rattle.sequencer.specs.World.{World}

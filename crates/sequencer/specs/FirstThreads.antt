@@ -1,8 +1,8 @@
 -- Threads as a run of the first form keeps them, with a block number in place of statements.
 use Rattle.std.specs.Prelude.{◌≡◌, ℕ, ◌+◌, ◌<◌, List, [], ◌∷◌, length, Some, if◌then◌else◌}
 use Rattle.std.specs.List.{fold}
-use Rattle.block_table.specs.declared.first.types.FirstBlock.{FirstBlock}
-use Rattle.block_table.specs.FirstProject.{Project}
+use Rattle.first_projects.specs.declared.first.types.FirstBlock.{FirstBlock}
+use Rattle.first_projects.specs.FirstProject.{Project}
 use Rattle.scratch_values.specs.declared.value.Value.{Value}
 use Rattle.sequencer.specs.declared.first.thread.FirstThread.{FirstThread}
 use Rattle.sequencer.specs.World.{Thread}

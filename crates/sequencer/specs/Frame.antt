@@ -1,10 +1,10 @@
 -- A frame, the first world and the line `flag` (scratch-vm, engine/runtime.js, _step and greenFlag).
 use Rattle.std.specs.Prelude.{ℕ, zero, suc, ◌+◌, List, [], ◌∷◌, map, reverse, flat_map, slice_get, unwrap_or, Bool, true, false, not, ◌&&◌, Option, if◌then◌else◌}
-use Rattle.block_table.specs.declared.first.types.FirstBlock.{FirstBlock}
-use Rattle.block_table.specs.declared.first.types.FirstCode.{FirstCode}
-use Rattle.block_table.specs.declared.first.types.FirstCode.TheVariants.{Flag, Set, Change}
-use Rattle.block_table.specs.FirstProject.{Project}
-use Rattle.block_table.specs.FirstOrder.{executable_order}
+use Rattle.first_projects.specs.declared.first.types.FirstBlock.{FirstBlock}
+use Rattle.first_projects.specs.declared.first.types.FirstCode.{FirstCode}
+use Rattle.first_projects.specs.declared.first.types.FirstCode.TheVariants.{Flag, Set, Change}
+use Rattle.first_projects.specs.FirstProject.{Project}
+use Rattle.first_projects.specs.FirstOrder.{executable_order}
 use Rattle.scratch_values.specs.declared.value.Value.TheVariants.{Text}
 use Rattle.sequencer.specs.declared.budget.Budget.{Budget}
 use Rattle.sequencer.specs.Script.{statements}

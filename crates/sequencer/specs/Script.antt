@@ -1,8 +1,8 @@
 -- Scripts as lists of statements: what follows a block along `next`, with no block numbers left.
 use Rattle.std.specs.Prelude.{ℕ, zero, suc, List, [], ◌∷◌, length, slice_get, Option, None, Some}
-use Rattle.block_table.specs.declared.first.types.FirstBlock.{FirstBlock}
-use Rattle.block_table.specs.declared.first.types.FirstCode.{FirstCode}
-use Rattle.block_table.specs.declared.first.types.FirstCode.TheVariants.{Flag, Set, Change}
+use Rattle.first_projects.specs.declared.first.types.FirstBlock.{FirstBlock}
+use Rattle.first_projects.specs.declared.first.types.FirstCode.{FirstCode}
+use Rattle.first_projects.specs.declared.first.types.FirstCode.TheVariants.{Flag, Set, Change}
 
 -- a variable is a place among those of the stage
 pub data Statement : Type 0 where

@@ -3,7 +3,7 @@ ghost use Rattle.sequencer.specs.FirstRun.{IsRunOf};
 
 use crate::FirstRun;
 use crate::first::value::FirstValue;
-use block_table::{FirstProject, first_form};
+use first_projects::{FirstProject, first_form};
 use project_json::{Text, read};
 use std::alloc::Global;
 use std::test::Fail;

@@ -1,8 +1,8 @@
 //! A run of a project.
 
 ghost use Rattle.std.specs.Prelude.{◌≡◌, ℕ, ◌+◌, ◌^◌, [], ◌<◌, ◌≤◌, ◌++◌, length, slice_get, Some, option_map, IfOk, OnOk, map, flat_map, reverse};
-ghost use Rattle.block_table.specs.FirstProject.{AreLinked, ActsWithin};
-ghost use Rattle.block_table.specs.FirstOrder.{executable_order};
+ghost use Rattle.first_projects.specs.FirstProject.{AreLinked, ActsWithin};
+ghost use Rattle.first_projects.specs.FirstOrder.{executable_order};
 ghost use Rattle.scratch_values.specs.declared.value.Value.{Value};
 ghost use Rattle.scratch_values.specs.Value.{text_of};
 ghost use Rattle.sequencer.specs.declared.budget.Budget.{Budget};
@@ -13,7 +13,7 @@ ghost use Rattle.sequencer.specs.Frame.{frame, first_world, flag_line, is_flag_h
 
 use crate::first::thread::FirstThread;
 use crate::first::value::FirstValue;
-use block_table::{FirstBlock, FirstCode, FirstProject, FirstVariable};
+use first_projects::{FirstBlock, FirstCode, FirstProject, FirstVariable};
 use project_json::Text;
 use std::alloc::{AllocError, Global};
 use std::marker::Model;

@@ -1,5 +1,5 @@
 use Rattle.std.proofs.Common.{◌<◌, sym, ap, ◌∙◌, subst, [], length, set}
-use Rattle.block_table.specs.FirstProject.{ActsWithin}
+use Rattle.first_projects.specs.FirstProject.{ActsWithin}
 use Rattle.scratch_number.specs.Arithmetic.{add}
 use Rattle.scratch_values.specs.declared.value.Value.{Value}
 use Rattle.scratch_values.specs.declared.value.Value.TheVariants.{Number, Text}
