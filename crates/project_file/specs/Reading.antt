@@ -1,6 +1,6 @@
 -- The project that a document tells, or the path of the first value that has not its shape: the members of each target,
 -- then the monitors, then the blocks of each target.
-use Rattle.std.specs.Prelude.{ℕ, List, [], codes, ◌∷◌, Result, Ok}
+use Rattle.std.specs.Prelude.{ℕ, List, [], map, codes, ◌∷◌, Result, Ok}
 use Rattle.project_json.specs.Tree.{Tree}
 use Rattle.shapes.specs.Shapes as shape
 use Rattle.shapes.specs.Shapes.{Reader, ◌>>=◌}
@@ -17,6 +17,10 @@ pub record Table : Type 0 where
 pub record File : Type 0 where
   pub records : Records
   pub tables : List Table
+
+-- the blocks of each target, in file order
+abbrev pub blocks_in : File → List (List Block)
+blocks_in f = map (λ t. t.blocks) f.tables
 
 abbrev pub table_of : Reader (List (List ℕ × Tree)) Table
 table_of at ms = blocks_of at ms >>= (λ blocks. Ok (record { members = ms; blocks = blocks }))

@@ -1,6 +1,6 @@
 -- Which project files are accepted, and why another is refused: by the first fault, in the order of the tests.
-use Rattle.std.specs.Prelude.{◌≡◌, ◌≢◌, ◌⊎◌, ◌↔◌, ℕ, ◌<◌, Bool, true, List, [], ◌∷◌, flat_map, filter, map, slice_get, None, Some, Ok, Err, Contains}
-use Rattle.std.specs.List.{count_by, enumerate_from, All}
+use Rattle.std.specs.Prelude.{◌≡◌, ◌≢◌, ◌⊎◌, ◌↔◌, ℕ, ◌<◌, Bool, true, List, [], ◌∷◌, slice_get, None, Some, Ok, Err, Contains}
+use Rattle.std.specs.List.{count_by, All}
 use Rattle.project_json.specs.Tree.{Tree}
 use Rattle.project_json.specs.Text.{IsText, max_depth}
 use Rattle.project_json.specs.Refusal.{IsFault}
@@ -15,8 +15,8 @@ use Rattle.project_file.specs.Blocks.{Code, Known, Other, Block}
 use Rattle.project_file.specs.declared.blocks.Mutation.TheVariants as mutation
 use Rattle.project_file.specs.Limits.{too_many}
 use Rattle.project_file.specs.Linked.{dangling, IsCyclic, IsChecked, Nests, deepest, misfits, missing_input, unfit_field}
-use Rattle.project_file.specs.Reading.{File, Table, file_of}
-use Rattle.project_file.specs.Resolving.{Site, resolved_all}
+use Rattle.project_file.specs.Reading.{File, blocks_in, file_of}
+use Rattle.project_file.specs.Resolving.{resolved_targets}
 use Rattle.project_file.specs.Trees.{program}
 
 -- What is tested of the blocks
@@ -56,30 +56,30 @@ Fails Inputs blocks at b r = (name : List ℕ) × IsChecked blocks at.block × (
 Fails Fields blocks at b r = (name : List ℕ) × IsChecked blocks at.block × (unfit_field b ≡ Some name) × (r ≡ refusal.Field at name)
 Fails Depth blocks at b r = (depth : ℕ) × Nests blocks at.block depth × (deepest < depth) × (r ≡ refusal.TooDeep at)
 
--- a block of the file fails a test
-pub record FailsAt (tables : List Table) (test : Test) (at : At) (r : Refusal) : Type 0 where
-  pub table : Table
+-- a block of the file, whose targets have these blocks, fails a test
+pub record FailsAt (tables : List (List Block)) (test : Test) (at : At) (r : Refusal) : Type 0 where
+  pub blocks : List Block
   pub block : Block
-  pub target : slice_get tables at.target ≡ Some table
-  pub held : slice_get table.blocks at.block ≡ Some block
-  pub fails : Fails test table.blocks at block r
+  pub target : slice_get tables at.target ≡ Some blocks
+  pub held : slice_get blocks at.block ≡ Some block
+  pub fails : Fails test blocks at block r
 
 -- in an earlier target, or earlier in the same one
 abbrev pub IsBefore : At → At → Type 0
 IsBefore a b = (a.target < b.target) ⊎ ((a.target ≡ b.target) × (a.block < b.block))
 
 -- the first block that fails a test, and what it is told
-pub record IsFirst (tables : List Table) (test : Test) (r : Refusal) : Type 0 where
+pub record IsFirst (tables : List (List Block)) (test : Test) (r : Refusal) : Type 0 where
   pub at : At
   pub fails : FailsAt tables test at r
   pub first : (earlier : At) (other : Refusal) → IsBefore earlier at → FailsAt tables test earlier other → ⊥
 
 -- no block fails it
-abbrev pub Passes : List Table → Test → Type 0
+abbrev pub Passes : List (List Block) → Test → Type 0
 Passes tables test = (at : At) (r : Refusal) → FailsAt tables test at r → ⊥
 
 -- the first of the tests that a block fails
-abbrev pub IsFirstOf : List Table → List Test → Refusal → Type 0
+abbrev pub IsFirstOf : List (List Block) → List Test → Refusal → Type 0
 IsFirstOf tables [] r = ⊥
 IsFirstOf tables (t ∷ ts) r = IsFirst tables t r ⊎ (Passes tables t × IsFirstOf tables ts r)
 
@@ -92,14 +92,14 @@ stage_count f = count_by (λ t. t.is_stage) f.records.targets
 pub record IsWell (f : File) : Type 0 where
   pub stage : stage_count f ≡ 1
   pub few : too_many f ≡ None
-  pub blocks : All (Passes f.tables) tests
+  pub blocks : All (Passes (blocks_in f)) tests
 
 -- the number of stages first, then what is too many, then the blocks
 abbrev pub IsFileRefusal : File → Refusal → Type 0
 IsFileRefusal f r =
     ((stage_count f ≢ 1) × (r ≡ refusal.StageCount (stage_count f)))
     ⊎ ((stage_count f ≡ 1) × (((path : List ℕ) × (too_many f ≡ Some path) × (r ≡ refusal.TooMany path))
-    ⊎ ((too_many f ≡ None) × IsFirstOf f.tables tests r)))
+    ⊎ ((too_many f ≡ None) × IsFirstOf (blocks_in f) tests r)))
 
 -- the bytes are no JSON text, or that of a document with a value that has not its shape, or of a file that is refused
 abbrev pub IsRefusal : List ℕ → Refusal → Type 0
@@ -110,18 +110,15 @@ IsRefusal bytes r =
 
 -- The program of a file
 
--- the blocks for which a test of target and block holds, in target and block order
-abbrev pub sites_in : (ℕ → ℕ → Bool) → ℕ × Table → List Site
-sites_in test (t, table) = map (λ x. record { target = t; number = x.0; block = x.1 }) (filter (λ x. test t x.0) (enumerate_from 0 table.blocks))
-
-abbrev pub sites : (ℕ → ℕ → Bool) → List Table → List Site
-sites test tables = flat_map (sites_in test) (enumerate_from 0 tables)
+-- a truth for each target and block: whether the block is checked
+abbrev pub TellsChecked : List (List Block) → (ℕ → ℕ → Bool) → Type 0
+TellsChecked tables checked = (t k : ℕ) (blocks : List Block) → slice_get tables t ≡ Some blocks → (checked t k ≡ true) ↔ IsChecked blocks k
 
 -- the program, where the names in checked blocks are resolved
 pub record IsProgram (f : File) (p : Program) : Type 0 where
-  pub test : ℕ → ℕ → Bool
-  pub checked : (t k : ℕ) (table : Table) → slice_get f.tables t ≡ Some table → ((test t k ≡ true) ↔ IsChecked table.blocks k)
-  pub is : p ≡ program f.tables (resolved_all f.records (sites test f.tables))
+  pub checked : ℕ → ℕ → Bool
+  pub tells : TellsChecked (blocks_in f) checked
+  pub is : p ≡ program (blocks_in f) (resolved_targets checked 0 (blocks_in f) f.records)
 
 -- the bytes of a project file that is accepted, and its program
 pub record IsProject (bytes : List ℕ) (p : Program) : Type 0 where

@@ -1,8 +1,9 @@
 -- Which variable or list each block of a checked script names: by id in its own target, by id in the stage, by name in its
 -- own target, by name in the stage. Where none is found, one is added to the target.
-use Rattle.std.specs.Prelude.{ℕ, ◌==◌, ◌&&◌, Bool, true, false, if◌then◌else◌, List, [], ◌∷◌, ◌++◌, length, map, flat_map, fold, position, slice_get, bytes_eq, codes, Option, None, Some, option_map}
+pub use Rattle.project_file.specs.declared.blocks.Resolved.{Resolved}
+use Rattle.std.specs.Prelude.{ℕ, ◌+◌, ◌&&◌, Bool, true, false, if◌then◌else◌, List, [], ◌∷◌, ◌++◌, length, map, flat_map, find, position, slice_get, unwrap_or, bytes_eq, codes, Option, None, Some, option_map}
 use Rattle.std.specs.List.{list_any}
-use Rattle.std.specs.Option.{option_or, option_and_then}
+use Rattle.std.specs.Option.{option_or}
 use Rattle.opcode_table.specs.Table.{row}
 use Rattle.scratch_values.specs.declared.names.VarName.{VarName}
 use Rattle.scratch_values.specs.declared.names.VarRef.{VarRef}
@@ -85,52 +86,67 @@ with_added OfList name t = record t { lists = t.lists ++ record { name = name; i
 
 -- What each block names
 
--- a resolved name: where it stands, and what it names
-pub record Resolved : Type 0 where
-  pub target : ℕ
-  pub block : ℕ
-  pub naming : Naming
-  pub ref : VarRef
-
--- the records with what was added, and what was resolved
-pub record Resolving : Type 0 where
+-- the records with what was added, beside what was found
+pub record Found (A : Type 0) : Type 0 where
   pub records : Records
-  pub resolved : List Resolved
+  pub what : A
 
-abbrev pub noted : (target block : ℕ) → Naming → VarRef → Records → Resolving → Resolving
-noted t k n ref records r = record { records = records; resolved = r.resolved ++ record { target = t; block = k; naming = n; ref = ref } ∷ [] }
+-- goes on with what was found
+abbrev pub and_then : {A B : Type 0} → Found A → (A → Records → Found B) → Found B
+and_then f next = next f.what f.records
 
-abbrev pub added : (target block : ℕ) → Naming → Resolving → Resolving
-added t k n r =
-    noted t k n (Own (length (names_of n.sort (record_at t r.records))))
-    (record r.records { targets = changed_at (with_added n.sort n.name) t r.records.targets }) r
+-- the same records, beside more
+abbrev pub before : {A : Type 0} → A → Found (List A) → Found (List A)
+before a f = record { records = f.records; what = a ∷ f.what }
 
-abbrev pub resolved_by : Option VarRef → (target block : ℕ) → Naming → Resolving → Resolving
-resolved_by (Some ref) t k n r = noted t k n ref r.records r
-resolved_by None t k n r = added t k n r
+-- what was found, or what is added to the target
+abbrev pub or_added : Option VarRef → (target : ℕ) → Naming → Records → Found VarRef
+or_added (Some ref) t n records = record { records = records; what = ref }
+or_added None t n records = record {
+  records = record records { targets = changed_at (with_added n.sort n.name) t records.targets };
+  what = Own (length (names_of n.sort (record_at t records)));
+}
 
-abbrev pub resolve : (target block : ℕ) → Resolving → Naming → Resolving
-resolve t k r n =
-    resolved_by (found_in (names_of n.sort (record_at t r.records)) (names_of n.sort (record_at (stage_number r.records) r.records)) n.name) t k n r
+-- the variable or list of a name in a target
+abbrev pub resolved_name : (target : ℕ) → Naming → Records → Found VarRef
+resolved_name t n records =
+    or_added (found_in (names_of n.sort (record_at t records)) (names_of n.sort (record_at (stage_number records) records)) n.name) t n records
 
--- a block of a target, and whether it is in a checked script
-pub record Site : Type 0 where
-  pub target : ℕ
-  pub number : ℕ
-  pub block : Block
+-- the names of a block, one after another
+abbrev pub resolved_names : (target : ℕ) → List Naming → Records → Found (List Resolved)
+resolved_names t [] records = record { records = records; what = [] }
+resolved_names t (n ∷ ns) records =
+    and_then (resolved_name t n records) (λ ref rs. before (record { in_input = n.in_input; part = n.part; variable = ref }) (resolved_names t ns rs))
 
--- the blocks of checked scripts, in target and block order
-abbrev pub resolved_all : Records → List Site → Resolving
-resolved_all records sites = fold (λ r s. fold (resolve s.target s.number) r (namings s.block)) (record { records = records; resolved = [] }) sites
+-- a block outside checked scripts names nothing
+abbrev pub names_in : (is_checked : Bool) → Block → List Naming
+names_in true b = namings b
+names_in false b = []
 
--- what a part of a block names
-abbrev pub is_at : (target block : ℕ) → (in_input : Bool) → List ℕ → Resolved → Bool
-is_at t k in_input part r = r.target == t && r.block == k && same in_input r.naming.in_input && bytes_eq r.naming.part part
+-- the blocks of a target from number k on, in block order
+abbrev pub resolved_blocks : (ℕ → Bool) → (target k : ℕ) → List Block → Records → Found (List (List Resolved))
+resolved_blocks checked t k [] records = record { records = records; what = [] }
+resolved_blocks checked t k (b ∷ bs) records =
+    and_then (resolved_names t (names_in (checked k) b) records) (λ refs rs. before refs (resolved_blocks checked t (k + 1) bs rs))
+
+-- the targets from number t on, in file order
+abbrev pub resolved_targets : (ℕ → ℕ → Bool) → (t : ℕ) → List (List Block) → Records → Found (List (List (List Resolved)))
+resolved_targets checked t [] records = record { records = records; what = [] }
+resolved_targets checked t (bs ∷ more) records =
+    and_then (resolved_blocks (checked t) t 0 bs records) (λ refs rs. before refs (resolved_targets checked (t + 1) more rs))
+
+-- what a part of a block names, by what its block names
+abbrev pub ref_in : List Resolved → (in_input : Bool) → List ℕ → Option VarRef
+ref_in refs in_input part = option_map (λ r. r.variable) (find (is_at in_input part) refs)
   where
     same : Bool → Bool → Bool
     same true b = b
     same false true = false
     same false false = true
 
-abbrev pub ref_at : List Resolved → (target block : ℕ) → (in_input : Bool) → List ℕ → Option VarRef
-ref_at resolved t k in_input part = option_map (λ r. r.ref) (option_and_then (λ i. slice_get resolved i) (position (is_at t k in_input part) resolved))
+    is_at : Bool → List ℕ → Resolved → Bool
+    is_at in_input part r = same in_input r.in_input && bytes_eq r.part part
+
+-- what a part of block k names
+abbrev pub ref_at : List (List Resolved) → (k : ℕ) → (in_input : Bool) → List ℕ → Option VarRef
+ref_at refs k in_input part = ref_in (unwrap_or (slice_get refs k) []) in_input part

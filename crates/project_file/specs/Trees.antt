@@ -16,17 +16,16 @@ use Rattle.project_file.specs.Blocks.{Link, To, Unknown, Code, Known, Other, Inp
 use Rattle.project_file.specs.declared.blocks.Input.TheVariants as input
 use Rattle.project_file.specs.declared.blocks.Mutation.TheVariants as mutation
 use Rattle.project_file.specs.Linked.{is_branch, custom_block, is_head, has_role, named}
-use Rattle.project_file.specs.Resolving.{Resolved, Resolving, ref_at}
-use Rattle.project_file.specs.Reading.{Table}
+use Rattle.project_file.specs.Resolving.{Resolved, Found, ref_at}
 
--- the blocks of a target, and what they name
+-- the blocks of a target, and what each of them names
 pub record Sheet : Type 0 where
   pub target : ℕ
   pub blocks : List Block
-  pub resolved : List Resolved
+  pub refs : List (List Resolved)
 
 abbrev pub named_ref : Sheet → ℕ → (in_input : Bool) → List ℕ → VarRef
-named_ref sheet k in_input part = unwrap_or (ref_at sheet.resolved sheet.target k in_input part) (Own 0)
+named_ref sheet k in_input part = unwrap_or (ref_at sheet.refs k in_input part) (Own 0)
 
 -- What a block's inputs hold
 
@@ -86,7 +85,7 @@ fields_of b = map (λ f. (f.0, f.1.name)) b.fields
 
 abbrev pub refs_from : Sheet → ℕ → List (List ℕ × VarName) → Refs
 refs_from sheet k [] = []
-refs_from sheet k (f ∷ fs) = with_ref (ref_at sheet.resolved sheet.target k false f.0) f.0 (refs_from sheet k fs)
+refs_from sheet k (f ∷ fs) = with_ref (ref_at sheet.refs k false f.0) f.0 (refs_from sheet k fs)
   where
     with_ref : Option VarRef → List ℕ → Refs → Refs
     with_ref None name rest = rest
@@ -209,9 +208,13 @@ procedures_of sheet = first_of_each (filter_map (procedure_at sheet) (enumerate_
 abbrev pub scripts_of : Sheet → Scripts
 scripts_of sheet = record { heads = heads_of sheet; procedures = procedures_of sheet }
 
+abbrev pub sheet_of : List (List (List Resolved)) → ℕ × List Block → Sheet
+sheet_of refs (t, blocks) = record { target = t; blocks = blocks; refs = unwrap_or (slice_get refs t) [] }
+
+-- the blocks of each target, and what they name, in file order
+abbrev pub sheets : List (List Block) → List (List (List Resolved)) → List Sheet
+sheets tables refs = map (sheet_of refs) (enumerate_from 0 tables)
+
 -- the program of a project, where names are resolved
-abbrev pub program : List Table → Resolving → Program
-program tables r = record {
-  records = r.records;
-  scripts = map (λ x. scripts_of (record { target = x.0; blocks = x.1.blocks; resolved = r.resolved })) (enumerate_from 0 tables);
-}
+abbrev pub program : List (List Block) → Found (List (List (List Resolved))) → Program
+program tables f = record { records = f.records; scripts = map scripts_of (sheets tables f.what) }

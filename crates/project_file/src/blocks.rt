@@ -4,7 +4,7 @@ use crate::refusals::MutationRefusal;
 use lists::ListOf;
 use opcode_table::Opcode;
 use project_json::{Text, Texts};
-use scratch_values::{Value, Values, VarName};
+use scratch_values::{Value, Values, VarName, VarRef};
 use script_machine::BlockId;
 
 /// Where a link leads: to a block of its target, or to an id that names none.
@@ -82,6 +82,15 @@ pub struct Block {
     /// Whether it stands at the top of a stack.
     pub top_level: bool,
     pub mutation: Mutation,
+}
+
+/// What a part of a block names, its field or its input of that name.
+#[derive(Debug, Drop)]
+pub struct Resolved {
+    /// Whether the part is an input; else it is a field.
+    pub in_input: bool,
+    pub part: Text,
+    pub variable: VarRef,
 }
 
 /// The blocks of a target, in document order.

@@ -6,6 +6,6 @@ mod blocks;
 mod laws;
 mod refusals;
 
-pub use blocks::{Block, Blocks, Code, Fields, Input, Inputs, Link, Mutation, Prototype};
+pub use blocks::{Block, Blocks, Code, Fields, Input, Inputs, Link, Mutation, Prototype, Resolved};
 pub use laws::a_link_has_one_script;
 pub use refusals::{At, MutationRefusal, Refusal};
