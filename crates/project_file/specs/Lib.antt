@@ -1,4 +1,5 @@
 pub mod Values
+pub mod FileValues
 pub mod Mutation
 pub mod Blocks
 pub mod Targets

@@ -5,7 +5,9 @@
 mod blocks;
 mod laws;
 mod refusals;
+mod values;
 
 pub use blocks::{Block, Blocks, Code, Fields, Input, Inputs, Link, Mutation, Prototype, Resolved};
 pub use laws::a_link_has_one_script;
 pub use refusals::{At, MutationRefusal, Refusal};
+pub use values::{FileValue, num, value};
