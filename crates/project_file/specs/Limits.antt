@@ -1,9 +1,8 @@
 -- How much a project file may hold: counts, the items of lists, and the length of each text that a run can use as a value.
 -- The first that is too many is told by its path.
-use Rattle.std.specs.Prelude.{ℕ, ◌+◌, nat_lt, Bool, List, [], ◌∷◌, ◌++◌, length, codes, find, flat_map, Option, None, Some, option_map}
+use Rattle.std.specs.Prelude.{ℕ, ◌+◌, nat_lt, Bool, true, false, List, [], ◌∷◌, ◌++◌, length, codes, find, flat_map, Option, None, Some, option_map}
 use Rattle.std.specs.Fmt.{decimal}
 use Rattle.std.specs.List.{enumerate_from, zip}
-use Rattle.project_json.specs.Tree.{Tree, list}
 use Rattle.scratch_values.specs.declared.value.Value.{Value}
 use Rattle.scratch_values.specs.declared.value.Value.TheVariants.{Number, Truth, Text}
 use Rattle.scratch_values.specs.Longest.{longest}
@@ -15,7 +14,7 @@ use Rattle.script_machine.specs.DataRows.{most_items}
 use Rattle.project_file.specs.Blocks.{Input, Mutation, Block}
 use Rattle.project_file.specs.declared.blocks.Input.TheVariants as input
 use Rattle.project_file.specs.declared.blocks.Mutation.TheVariants as mutation
-use Rattle.project_file.specs.Reading.{Table, File}
+use Rattle.project_file.specs.Reading.{Origin, Table, File}
 
 abbrev pub most_targets : ℕ
 most_targets = 1000
@@ -73,24 +72,24 @@ input_measures at (name, input.Literal v) = value_measures (codes "1" ∷ codes 
 input_measures at (name, _) = []
 
 -- a field of a block that is a list stands at its place 1
-abbrev pub field_place : Tree → List ℕ → List (List ℕ) → List (List ℕ)
-field_place (list ts) name at = codes "1" ∷ at
-field_place t name at = codes "0" ∷ name ∷ codes "fields" ∷ at
+abbrev pub field_place : (is_list : Bool) → List ℕ → List (List ℕ) → List (List ℕ)
+field_place true name at = codes "1" ∷ at
+field_place false name at = codes "0" ∷ name ∷ codes "fields" ∷ at
 
 -- the defaults of a prototype; those of an unfit one do not count
 abbrev pub default_measures : List (List ℕ) → Mutation → List Measure
 default_measures at (mutation.Prototype q) = flat_map (value_measures (codes "argumentdefaults" ∷ codes "mutation" ∷ at)) q.defaults
 default_measures at _ = []
 
-abbrev pub block_measures : List (List ℕ) → (List ℕ × Tree) × Block → List Measure
-block_measures at (m, b) =
-    let here = m.0 ∷ at in
+abbrev pub block_measures : List (List ℕ) → Origin × Block → List Measure
+block_measures at (o, b) =
+    let here = o.id ∷ at in
     flat_map (input_measures (codes "inputs" ∷ here)) b.inputs
-    ++ (flat_map (λ f. measure (field_place m.1 f.0 here) (length f.1.name) longest ∷ []) b.fields
+    ++ (flat_map (λ f. measure (field_place o.is_list f.0 here) (length f.1.name) longest ∷ []) b.fields
     ++ default_measures here b.mutation)
 
 abbrev pub table_measures : List (List ℕ) → Table → List Measure
-table_measures at table = flat_map (block_measures at) (zip table.members table.blocks)
+table_measures at table = flat_map (block_measures at) (zip table.origins table.blocks)
 
 -- a target's place, and that of its blocks
 abbrev pub target_place : ℕ → List (List ℕ)
@@ -117,5 +116,8 @@ abbrev pub is_too_many : Measure → Bool
 is_too_many m = nat_lt m.most m.count
 
 -- the path of the first that is too many
+abbrev pub first_too_many : List Measure → Option (List ℕ)
+first_too_many ms = option_map (λ m. path m.at) (find is_too_many ms)
+
 abbrev pub too_many : File → Option (List ℕ)
-too_many f = option_map (λ m. path m.at) (find is_too_many (measures f))
+too_many f = first_too_many (measures f)

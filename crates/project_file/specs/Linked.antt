@@ -1,5 +1,5 @@
 -- Links, checked scripts, what each block has to have, and how deep reporters nest.
-use Rattle.std.specs.Prelude.{◌≡◌, ℕ, ◌+◌, Bool, true, false, not, ◌&&◌, ◌||◌, ◌==◌, if◌then◌else◌, List, [], ◌∷◌, ◌++◌, length, flat_map, find, take, slice_get, bytes_eq, codes, Option, None, Some, option_map, IsTrue, Contains}
+use Rattle.std.specs.Prelude.{◌≡◌, ℕ, ◌+◌, ◌<◌, Bool, true, false, not, ◌&&◌, ◌||◌, ◌==◌, if◌then◌else◌, List, [], ◌∷◌, ◌++◌, length, flat_map, find, take, slice_get, slice_index, bytes_eq, codes, Option, None, Some, option_map, IsTrue, Contains}
 use Rattle.std.specs.List.{list_any}
 use Rattle.opcode_table.specs.declared.opcode.Opcode.{Opcode}
 use Rattle.opcode_table.specs.declared.opcode.Opcode.TheVariants.{OperatorMathOp}
@@ -114,6 +114,16 @@ pub record Leads (blocks : List Block) (i j : ℕ) : Type 0 where
   pub place : Place
   pub held : slice_get blocks i ≡ Some block
   pub link : Contains (leads_to block) (place, j)
+
+-- every link that names a block leads to one of the target's
+abbrev pub IsClosed : List Block → Type 0
+IsClosed blocks = (i j : ℕ) → Leads blocks i j → j < length blocks
+
+-- a rank for each block, below their number, which falls along every link
+pub record AreRanks (blocks : List Block) (ranks : List ℕ) : Type 0 where
+  pub each : length ranks ≡ length blocks
+  pub bounded : (i : ℕ) → i < length blocks → slice_index ranks i < length blocks
+  pub falls : (i j : ℕ) → Leads blocks i j → slice_index ranks j < slice_index ranks i
 
 -- one link or more lead from block i to block j
 pub data Chain (blocks : List Block) : ℕ → ℕ → Type 0 where

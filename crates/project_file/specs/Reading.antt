@@ -1,16 +1,28 @@
 -- The project that a document tells, or the path of the first value that has not its shape: the members of each target,
 -- then the monitors, then the blocks of each target.
-use Rattle.std.specs.Prelude.{ℕ, List, [], map, codes, ◌∷◌, Result, Ok}
-use Rattle.project_json.specs.Tree.{Tree}
+use Rattle.std.specs.Prelude.{ℕ, Bool, true, false, List, [], map, codes, ◌∷◌, Result, Ok}
+use Rattle.project_json.specs.Tree.{Tree, list}
 use Rattle.shapes.specs.Shapes as shape
 use Rattle.shapes.specs.Shapes.{Reader, ◌>>=◌}
 use Rattle.script_machine.specs.Program.{Records}
 use Rattle.project_file.specs.Blocks.{Block, blocks_of}
 use Rattle.project_file.specs.Targets.{target_of, monitor_of}
 
--- the blocks of a target, beside the members that tell them, each with its id
+-- what tells a block: its id, and whether the block is a list
+pub record Origin : Type 0 where
+  pub id : List ℕ
+  pub is_list : Bool
+
+abbrev pub origin_of : List ℕ × Tree → Origin
+origin_of (id, t) = record { id = id; is_list = is_list t }
+  where
+    is_list : Tree → Bool
+    is_list (list ts) = true
+    is_list _ = false
+
+-- the blocks of a target, beside what tells each of them
 pub record Table : Type 0 where
-  pub members : List (List ℕ × Tree)
+  pub origins : List Origin
   pub blocks : List Block
 
 -- what a document tells: the records, and the blocks of each target
@@ -23,7 +35,7 @@ abbrev pub blocks_in : File → List (List Block)
 blocks_in f = map (λ t. t.blocks) f.tables
 
 abbrev pub table_of : Reader (List (List ℕ × Tree)) Table
-table_of at ms = blocks_of at ms >>= (λ blocks. Ok (record { members = ms; blocks = blocks }))
+table_of at ms = blocks_of at ms >>= (λ blocks. Ok (record { origins = map origin_of ms; blocks = blocks }))
 
 -- the `blocks` of a target
 abbrev pub table_in : Reader Tree Table
