@@ -1,2 +1,3 @@
 pub mod OneTree
+pub mod OneRefusal
 pub mod WorkedRows

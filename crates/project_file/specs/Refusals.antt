@@ -128,3 +128,11 @@ pub record IsProject (bytes : List ℕ) (p : Program) : Type 0 where
   pub tells : file_of document ≡ Ok file
   pub well : IsWell file
   pub program : IsProgram file p
+
+-- a file is refused for one reason at most
+abbrev pub OneRefusal : Type 0
+OneRefusal = (bytes : List ℕ) (r s : Refusal) → IsRefusal bytes r → IsRefusal bytes s → r ≡ s
+
+-- a file that is accepted is not refused
+abbrev pub AcceptedIsNotRefused : Type 0
+AcceptedIsNotRefused = (bytes : List ℕ) (p : Program) (r : Refusal) → IsProject bytes p → IsRefusal bytes r → ⊥

@@ -8,6 +8,6 @@ mod refusals;
 mod values;
 
 pub use blocks::{Block, Blocks, Code, Fields, Input, Inputs, Link, Mutation, Prototype, Resolved};
-pub use laws::a_link_has_one_script;
+pub use laws::{a_file_has_one_answer, a_link_has_one_script};
 pub use refusals::{At, MutationRefusal, Refusal};
 pub use values::{FileValue, num, value};
