@@ -118,11 +118,15 @@ one_refusal laws bytes r s (inr (t, p, inr (f, x, a))) (inr (u, q, inr (g, y, b)
     one_of_file f r s a (subst (λ h. IsFileRefusal h s) (sym same) b)
 
 pub accepted_is_not_refused : JsonLaws → AcceptedIsNotRefused
-accepted_is_not_refused laws bytes p r a (inl b) = laws.apart max_depth bytes a.document b.0 a.text b.1
-accepted_is_not_refused laws bytes p r a (inr (u, q, inl b)) =
+accepted_is_not_refused laws bytes f r a (inl b) = laws.apart max_depth bytes a.document b.0 a.text b.1
+accepted_is_not_refused laws bytes f r a (inr (u, q, inl b)) =
     let e = one_text laws bytes a.document u a.text q in let x = a.tells in let y = b.1 in cc (e, x, y)
-accepted_is_not_refused laws bytes p r a (inr (u, q, inr (g, y, b))) =
+accepted_is_not_refused laws bytes f r a (inr (u, q, inr (g, y, b))) =
     let e = one_text laws bytes a.document u a.text q in
     let x = a.tells in
-    let same : a.file ≡ g = cc (e, x, y) in
-    none_of_well a.file r a.well (subst (λ h. IsFileRefusal h r) (sym same) b)
+    let same : f ≡ g = cc (e, x, y) in
+    none_of_well f r a.well (subst (λ h. IsFileRefusal h r) (sym same) b)
+
+pub one_file : JsonLaws → OneFile
+one_file laws bytes f g a b =
+    let e = one_text laws bytes a.document b.document a.text b.text in let x = a.tells in let y = b.tells in cc (e, x, y)

@@ -108,6 +108,25 @@ IsRefusal bytes r =
     ⊎ ((t : Tree) × IsText max_depth bytes t × (((path : List ℕ) × (file_of t ≡ Err path) × (r ≡ refusal.Shape path))
     ⊎ ((f : File) × (file_of t ≡ Ok f) × IsFileRefusal f r)))
 
+-- the bytes are those of a project file that is accepted
+pub record IsAccepted (bytes : List ℕ) (f : File) : Type 0 where
+  pub document : Tree
+  pub text : IsText max_depth bytes document
+  pub tells : file_of document ≡ Ok f
+  pub well : IsWell f
+
+-- a file is refused for one reason at most
+abbrev pub OneRefusal : Type 0
+OneRefusal = (bytes : List ℕ) (r s : Refusal) → IsRefusal bytes r → IsRefusal bytes s → r ≡ s
+
+-- a file that is accepted is not refused
+abbrev pub AcceptedIsNotRefused : Type 0
+AcceptedIsNotRefused = (bytes : List ℕ) (f : File) (r : Refusal) → IsAccepted bytes f → IsRefusal bytes r → ⊥
+
+-- the bytes of a file that is accepted tell one file
+abbrev pub OneFile : Type 0
+OneFile = (bytes : List ℕ) (f g : File) → IsAccepted bytes f → IsAccepted bytes g → f ≡ g
+
 -- The program of a file
 
 -- a truth for each target and block: whether the block is checked
@@ -121,18 +140,5 @@ pub record IsProgram (f : File) (p : Program) : Type 0 where
   pub is : p ≡ program (blocks_in f) (resolved_targets checked 0 (blocks_in f) f.records)
 
 -- the bytes of a project file that is accepted, and its program
-pub record IsProject (bytes : List ℕ) (p : Program) : Type 0 where
-  pub document : Tree
-  pub file : File
-  pub text : IsText max_depth bytes document
-  pub tells : file_of document ≡ Ok file
-  pub well : IsWell file
-  pub program : IsProgram file p
-
--- a file is refused for one reason at most
-abbrev pub OneRefusal : Type 0
-OneRefusal = (bytes : List ℕ) (r s : Refusal) → IsRefusal bytes r → IsRefusal bytes s → r ≡ s
-
--- a file that is accepted is not refused
-abbrev pub AcceptedIsNotRefused : Type 0
-AcceptedIsNotRefused = (bytes : List ℕ) (p : Program) (r : Refusal) → IsProject bytes p → IsRefusal bytes r → ⊥
+abbrev pub IsProject : List ℕ → Program → Type 0
+IsProject bytes p = (f : File) × IsAccepted bytes f × IsProgram f p

@@ -1,7 +1,7 @@
 //! Laws of what a project file tells, each the contract of a function that does nothing.
 
 ghost use Rattle.project_file.specs.TreeAt.{OneScript};
-ghost use Rattle.project_file.specs.Refusals.{OneRefusal, AcceptedIsNotRefused};
+ghost use Rattle.project_file.specs.Refusals.{OneRefusal, AcceptedIsNotRefused, OneFile};
 
 use project_json::{one_fault, one_tree, text_has_no_fault};
 
@@ -10,10 +10,11 @@ pub fn a_link_has_one_script()
     ensures { OneScript }
 {}
 
-/// A project file is refused for one reason at most, and none that is accepted is refused.
+/// A project file is refused for one reason at most, none that is accepted is refused, and what is accepted tells one file.
 pub fn a_file_has_one_answer()
     ensures one { OneRefusal }
     ensures apart { AcceptedIsNotRefused }
+    ensures file { OneFile }
 {
     one_tree();
     one_fault();
