@@ -12,7 +12,7 @@ use Rattle.project_file.specs.declared.refusals.At.{At}
 use Rattle.project_file.specs.declared.refusals.Refusal.{Refusal}
 use Rattle.project_file.specs.Blocks.{Block}
 use Rattle.project_file.specs.Reading.{File}
-use Rattle.project_file.specs.Refusals.{Test, Mutations, Links, Cycles, Places, Inputs, Fields, Depth, tests, Fails, FailsAt, IsBefore, IsFirst, Passes, IsFirstOf, IsWell, IsFileRefusal, OneRefusal, AcceptedIsNotRefused}
+use Rattle.project_file.specs.Refusals.{Test, Mutations, Links, Cycles, Places, Inputs, Fields, Depth, tests, Fails, FailsAt, IsBefore, IsFirst, Passes, IsFirstOf, IsWell, IsFileRefusal, OneRefusal, AcceptedIsNotRefused, OneFile}
 
 same_some : {A : Type 0} → (o : Option A) (a b : A) → o ≡ Some a → o ≡ Some b → a ≡ b
 same_some o a b e f = cc (e, f)
