@@ -1,2 +1,3 @@
 pub mod OneTree
+pub mod Unrolling
 pub mod WorkedRows
