@@ -1,3 +1,4 @@
 pub mod OneTree
 pub mod OneRefusal
+pub mod Unrolling
 pub mod WorkedRows

@@ -8,5 +8,6 @@ pub mod Linked
 pub mod Resolving
 pub mod Trees
 pub mod TreeAt
+pub mod Unrolling
 pub mod Reading
 pub mod Refusals
