@@ -1,6 +1,10 @@
 //! Why a project is refused.
 
+ghost use Rattle.std.specs.Prelude.{◌≡◌};
+ghost use Rattle.project_file.specs.declared.refusals.Refusal.TheVariants.{NoMemory};
+
 use project_json::{JsonRefusal, Text};
+use std::alloc::{AllocError, AllocFailed};
 
 /// Why the `mutation` of a procedure's prototype or of a call is unfit, in the order of the tests.
 #[derive(Clone, Copy, PartialEq, Eq, Debug)]
@@ -49,4 +53,20 @@ pub enum Refusal {
     TooDeep { at: At },
     /// Memory ran out.
     NoMemory,
+}
+
+impl From<AllocError> for Refusal {
+    ghost from_gives = { λ _ e. e ≡ NoMemory };
+
+    fn from(_error: AllocError) -> Refusal {
+        Refusal::NoMemory
+    }
+}
+
+impl<T: Drop> From<AllocFailed<T>> for Refusal {
+    ghost from_gives = { λ _ e. e ≡ NoMemory };
+
+    fn from(_error: AllocFailed<T>) -> Refusal {
+        Refusal::NoMemory
+    }
 }
