@@ -1,0 +1,6 @@
+pub mod Noting
+pub mod Measures
+pub mod Closed
+pub mod Tables
+pub mod Each
+pub mod Saying

@@ -1,0 +1,25 @@
+//! Reads the blocks of a target into a table, in which a block is found by its number, and its number by its id.
+//!
+//! Reading is in two steps. `read_table` tests the shapes and resolves links. `FileTable::bounded` tests that each text
+//! that a run can use as a value is short enough, so that all shapes of a file can be tested before. `build` is the two
+//! in one.
+#![tactic(auto)]
+
+mod bounding;
+mod fields;
+mod file_block;
+mod ids;
+mod inputs;
+mod objects;
+mod primitives;
+mod reading;
+mod refusal;
+mod salt;
+mod table;
+
+pub use reading::build;
+pub use refusal::BlockRefusal;
+pub use table::{BlockTable, FileTable, read_table};
+
+#[cfg(test)]
+mod tests;

@@ -1,0 +1,5 @@
+pub mod Lists
+pub mod Links
+pub mod Bridges
+pub mod Marking
+pub mod Orders

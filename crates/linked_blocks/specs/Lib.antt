@@ -1,0 +1,4 @@
+pub mod Kept
+pub mod Stops
+pub mod Rows
+pub mod Marks

@@ -1,0 +1,2 @@
+pub mod FilePrototype
+pub mod Says

@@ -1,0 +1,11 @@
+pub mod Added
+pub mod AmongTexts
+pub mod BlocksPassed
+pub mod Directories
+pub mod Fewness
+pub mod Firsts
+pub mod Indexes
+pub mod Passed
+pub mod Positions
+pub mod Scopes
+pub mod TargetsPassed

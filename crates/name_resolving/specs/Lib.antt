@@ -1,0 +1,9 @@
+pub mod FirstPlaces
+pub mod Index
+pub mod Directory
+pub mod Finding
+pub mod Naming
+pub mod Room
+pub mod Scope
+pub mod Passing
+pub mod Blocks

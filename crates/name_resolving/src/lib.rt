@@ -1,0 +1,19 @@
+//! Which variable or list each field and input of the blocks of checked scripts names, and what is added to the records
+//! of the targets where nothing has that name (scratch-vm, engine/target.js, lookupOrCreateVariable and lookupOrCreateList).
+#![tactic(auto)]
+
+mod block;
+mod directory;
+mod finding;
+mod first_places;
+mod index;
+mod naming;
+mod resolving;
+mod scope;
+mod sort;
+mod target;
+
+pub use resolving::{ResolvedNames, resolve};
+
+#[cfg(test)]
+mod tests;

@@ -1,0 +1,5 @@
+pub mod Sizes
+pub mod Counts
+pub mod TargetTold
+pub mod Held
+pub mod Empty

@@ -1,0 +1,6 @@
+pub mod Held
+pub mod Records
+pub mod Looks
+pub mod Reading
+pub mod Bounds
+pub mod Answers
