@@ -1,23 +1,33 @@
 -- A call's stages against its outcome.
-use Rattle.std.proofs.Common.{◌≡◌, ℕ, ◌<◌, ◌≤◌, Bool, true, false, cond, ltb, List, length, Option, None, Some, Err, refl, sym, ap, ◌∙◌, subst, inr, arith}
-use Rattle.std.specs.Prelude.{IfSome, IsSomeAnd}
+use Rattle.std.proofs.Common.{◌≡◌, ℕ, ◌<◌, ◌≤◌, Bool, true, false, cond, ltb, List, [], length, Option, None, Some, Err, refl, sym, ap, ◌∙◌, subst, inr, arith}
+use Rattle.std.specs.Prelude.{IfSome, IsSomeAnd, IsSome}
 use Rattle.std.specs.FinMap.{get}
 use Rattle.std.proofs.lemmas.Bool.Decides.{nat_tests}
 use Rattle.sv_channels.specs.Files.{Files}
+use Rattle.sv_channels.specs.Shelf.{IsHeld}
 use Rattle.sv_channels.proofs.Gains.{Gained-nil}
+use Rattle.project_json.specs.Text.{max_depth}
+use Rattle.project_json.specs.Refusal.{IsCause}
+use Rattle.project_json.specs.declared.refusal.JsonRefusal.{JsonRefusal}
+use Rattle.project_json.specs.declared.refusal.JsonRefusal.TheVariants as json_refusal
 use Rattle.project_json.proofs.Results.{json_one_tree, text_no_fault, same_fault}
+use Rattle.project_file.specs.declared.refusals.Refusal.{Refusal}
+use Rattle.project_file.specs.declared.refusals.Refusal.TheVariants as refusal
+use Rattle.project_file.proofs.OneRefusal.{JsonLaws, one_refusal, accepted_is_not_refused, one_file}
+use Rattle.project_check.specs.Loaded.{Loads as LoadsProject}
 use Rattle.first_projects.specs.FirstProject.{Project}
 use Rattle.first_projects.specs.FirstForm.{project_of}
 use Rattle.sequencer.specs.Frame.{first_world}
-use Rattle.player.specs.Limits.{project_limit, script_limit, nesting_limit}
-use Rattle.player.specs.Command.{Form}
+use Rattle.player.specs.Limits.{project_limit, script_limit}
+use Rattle.player.specs.Command.{Form, play, check}
 use Rattle.player.specs.Lines.{lines_of}
-use Rattle.player.specs.Output.{RunEnding, played}
-use Rattle.player.specs.Promise.{Loading, not_json, not_first_form, loaded, Loads, LoadsFile, missing, too_large, no_document, no_project, unloaded, ran, Ending, Outcome, ends, all_of, fetched, accepted, outcome_of, IsFetched, IsLoaded, AnswerCause, Wrote, FetchesOf}
-use Rattle.player.specs.Stages.{Fetched, Loaded, PlayedTo}
+use Rattle.player.specs.Output.{RunEnding, whole, played}
+use Rattle.player.specs.Promise.{Loading, refused, accepted, IsNotFirstForm, Loads, Checks, counts_of, OfFile, missing, too_large, not_accepted, unloaded, ran, Ending, Outcome, ends, all_of, fetched, loaded, told_counts, IsFetched, IsLoaded, AnswerCause, Wrote, FetchesOf, Promised}
+use Rattle.player.specs.Stages.{Fetched, Loaded, RefusedAs, PlayedTo}
+use Rattle.player.specs.Told.{text_of_refusal}
+use Rattle.player.specs.declared.counts.Counts.{Counts}
 use Rattle.player.specs.declared.status.Which.{Which}
 use Rattle.player.specs.declared.status.Which.TheVariants as which
-use Rattle.player.specs.declared.status.Refusal.TheVariants as refusal
 use Rattle.player.specs.declared.script.LineRefusal.TheVariants as line_refusal
 use Rattle.player.specs.declared.status.Status.{Status}
 use Rattle.player.specs.declared.status.Status.TheVariants.{Done, Usage, ReadFault, WriteFault, BadProject, BadScript, TooLarge, NoMemory}
@@ -35,38 +45,113 @@ fetched_large file limit (Some bytes) next h =
     let large : ltb limit (length bytes) ≡ true = grind (arith, nat_tests) in
     ap (λ b. cond b (ends (too_large file limit)) (next bytes)) large
 
--- bytes tell one project
-one_project : (bytes : List ℕ) (p q : Project) → Loads bytes (loaded p) → Loads bytes (loaded q) → q ≡ p
+-- bytes that were fetched
+pub record IsFetchedFile (held : Option Files) (name : List ℕ) (limit : ℕ) (bytes : List ℕ) : Type 0 where
+  pub small : length bytes ≤ limit
+  pub is : IfSome held (λ files. get files name ≡ Some bytes)
+
+-- by what a fetch answered, and by how its bytes were lent
+pub fetched_file : (before held : Option Files) (name : List ℕ) (limit : ℕ) (bytes lent : List ℕ) → before ≡ held → lent ≡ bytes → (length bytes ≤ limit) × IsHeld before name bytes → IsFetchedFile held name limit lent
+fetched_file before held name limit bytes lent same e h = record {
+  small = subst (λ bs. length bs ≤ limit) (sym e) h.0;
+  is = subst (λ bs. IfSome held (λ files. get files name ≡ Some bs)) (sym e) (subst (λ o. IfSome o (λ files. get files name ≡ Some bytes)) same h.1);
+}
+
+-- What a file is read as: one thing, or one refusal.
+pub record IsReading {A : Type 0} (reads : Loading A → Type 0) : Type 0 where
+  pub one : (r s : Refusal) → reads (refused r) → reads (refused s) → r ≡ s
+  pub same : (a b : A) → reads (accepted a) → reads (accepted b) → b ≡ a
+  pub apart : (a : A) (r : Refusal) → reads (accepted a) → reads (refused r) → ⊥
+
+-- the first form
+
+one_project : (bytes : List ℕ) (p q : Project) → Loads bytes (accepted p) → Loads bytes (accepted q) → q ≡ p
 one_project bytes p q a b =
-    let same = json_one_tree nesting_limit nesting_limit bytes b.0 a.0 b.1.1 a.1.1 in
+    let same = json_one_tree max_depth max_depth bytes b.0 a.0 b.1.1 a.1.1 in
     let both : Some q ≡ Some p = sym b.2 ∙ ap project_of same ∙ a.2 in
     cc
 
-none_loaded : (bytes : List ℕ) (p : Project) → Loads bytes (loaded p) → Loads bytes not_first_form → ⊥
-none_loaded bytes p a b =
-    let same = json_one_tree nesting_limit nesting_limit bytes b.0 a.0 b.1.1 a.1.1 in
-    let both : None ≡ Some p = sym b.2 ∙ ap project_of same ∙ a.2 in
+one_first : (bytes : List ℕ) (r s : Refusal) → IsNotFirstForm bytes r → IsNotFirstForm bytes s → r ≡ s
+one_first bytes (refusal.Json f) (refusal.Json g) a b = ap refusal.Json (same_fault max_depth bytes f g a b)
+one_first bytes (refusal.Json f) (refusal.Shape q) a b = absurd (text_no_fault max_depth bytes b.1.0 f b.1.1 a)
+one_first bytes (refusal.Shape p) (refusal.Json g) a b = absurd (text_no_fault max_depth bytes a.1.0 g a.1.1 b)
+one_first bytes (refusal.Shape p) (refusal.Shape q) a b = let e = a.0 in let f = b.0 in cc (e, f)
+one_first bytes (refusal.Json f) s a b = absurd b
+one_first bytes (refusal.Shape p) s a b = absurd b
+one_first bytes r s a b = absurd a
+
+first_apart : (bytes : List ℕ) (p : Project) (r : Refusal) → Loads bytes (accepted p) → IsNotFirstForm bytes r → ⊥
+first_apart bytes p (refusal.Json f) a b = text_no_fault max_depth bytes a.0 f a.1 b
+first_apart bytes p (refusal.Shape path) a b =
+    let same = json_one_tree max_depth max_depth bytes b.1.0 a.0 b.1.1.1 a.1.1 in
+    let both : None ≡ Some p = sym b.1.2 ∙ ap project_of same ∙ a.2 in
     cc
+first_apart bytes p r a b = b
 
--- what a project that was loaded goes on with
-accepted_ok : (bytes : List ℕ) (p : Project) (loading : Loading) (next : Project → Outcome) → Loads bytes (loaded p) → Loads bytes loading → accepted loading next ≡ next p
-accepted_ok bytes p (not_json r) next a b = absurd (text_no_fault nesting_limit bytes a.0 r a.1 b)
-accepted_ok bytes p not_first_form next a b = absurd (none_loaded bytes p a b)
-accepted_ok bytes p (loaded q) next a b = ap next (one_project bytes p q a b)
+pub first_reading : (bytes : List ℕ) → IsReading (Loads bytes)
+first_reading bytes = record { one = one_first bytes; same = one_project bytes; apart = first_apart bytes }
 
-abbrev pub after_load : Files → Form → Project → Outcome
-after_load files form p = fetched which.Script script_limit (get files form.script) (λ script. all_of (played p 1 (first_world p) (lines_of script)))
+-- the whole project
 
-outcome_loading : (files : Files) (form : Form) (bytes : List ℕ) (loading : Loading) → get files form.project ≡ Some bytes → length bytes ≤ project_limit → outcome_of files form loading ≡ accepted loading (after_load files form)
-outcome_loading files form bytes loading e h = fetched_ok which.Project project_limit (get files form.project) bytes (λ project. accepted loading (after_load files form)) e h
+json_laws : JsonLaws
+json_laws = record { tree = json_one_tree; fault = same_fault; apart = text_no_fault }
 
-loads_bytes : (o : Option (List ℕ)) (bytes : List ℕ) (loading : Loading) → o ≡ Some bytes → LoadsFile o loading → Loads bytes loading
-loads_bytes o bytes loading e l = subst (λ x. LoadsFile x loading) e l
+one_count : (bytes : List ℕ) (c d : Counts) → Checks bytes (accepted c) → Checks bytes (accepted d) → d ≡ c
+one_count bytes c d a b = b.2 ∙ ap counts_of (one_file json_laws bytes b.0 a.0 b.1 a.1) ∙ sym a.2
 
-outcome_loaded : (files : Files) (form : Form) (bytes : List ℕ) (p : Project) (loading : Loading) → get files form.project ≡ Some bytes → length bytes ≤ project_limit
-    → Loads bytes (loaded p) → LoadsFile (get files form.project) loading → outcome_of files form loading ≡ after_load files form p
-outcome_loaded files form bytes p loading e h a l =
-    outcome_loading files form bytes loading e h ∙ accepted_ok bytes p loading (after_load files form) a (loads_bytes (get files form.project) bytes loading e l)
+check_apart : (bytes : List ℕ) (c : Counts) (r : Refusal) → Checks bytes (accepted c) → Checks bytes (refused r) → ⊥
+check_apart bytes c r a b = accepted_is_not_refused json_laws bytes a.0 r a.1 b
+
+pub check_reading : (bytes : List ℕ) → IsReading (Checks bytes)
+check_reading bytes = record { one = one_refusal json_laws bytes; same = one_count bytes; apart = check_apart bytes }
+
+-- what goes on with a file that was accepted
+accepted_ok : {A : Type 0} (reads : Loading A → Type 0) → IsReading reads → (a : A) (loading : Loading A) (next : A → Outcome) → reads (accepted a) → reads loading → loaded loading next ≡ next a
+accepted_ok reads is a (refused r) next p q = absurd (is.apart a r p q)
+accepted_ok reads is a (accepted b) next p q = ap next (is.same a b p q)
+
+abbrev pub after_load : Form → Files → Project → Outcome
+after_load form files p = fetched which.Script script_limit (get files form.script) (λ script. all_of (played p 1 (first_world p) (lines_of script)))
+
+-- Where a project file was fetched
+
+abbrev pub AfterFetch : {A : Type 0} → (List ℕ → Loading A → Type 0) → (Files → A → Outcome) → (Outcome → Type 0) → Option Files → List ℕ → Type 0
+AfterFetch {A} reads next P held name =
+    IfSome held (λ files. (loading : Loading A) → OfFile reads (get files name) loading → P (fetched which.Project project_limit (get files name) (λ bytes. loaded loading (next files))))
+
+-- of every outcome
+pub always : {A : Type 0} (reads : List ℕ → Loading A → Type 0) (next : Files → A → Outcome) (P : Outcome → Type 0) (held : Option Files) (name : List ℕ) → ((o : Outcome) → P o) → AfterFetch reads next P held name
+always reads next P None name k = tt
+always reads next P (Some files) name k = λ loading l. k (fetched which.Project project_limit (get files name) (λ bytes. loaded loading (next files)))
+
+read_bytes : {A : Type 0} (reads : List ℕ → Loading A → Type 0) (o : Option (List ℕ)) (bytes : List ℕ) (loading : Loading A) → o ≡ Some bytes → OfFile reads o loading → reads bytes loading
+read_bytes reads o bytes loading e l = subst (λ x. OfFile reads x loading) e l
+
+pub at_load : {A : Type 0} (reads : List ℕ → Loading A → Type 0) (next : Files → A → Outcome) (P : Outcome → Type 0) (held : Option Files) (name bytes : List ℕ)
+    → IsFetchedFile held name project_limit bytes → ((files : Files) (loading : Loading A) → reads bytes loading → P (loaded loading (next files))) → AfterFetch reads next P held name
+at_load reads next P None name bytes h k = tt
+at_load reads next P (Some files) name bytes h k = λ loading l.
+    subst P (sym (fetched_ok which.Project project_limit (get files name) bytes (λ b. loaded loading (next files)) h.is h.small))
+    (k files loading (read_bytes reads (get files name) bytes loading h.is l))
+
+pub at_accepted : {A : Type 0} (reads : List ℕ → Loading A → Type 0) (next : Files → A → Outcome) (P : Outcome → Type 0) (held : Option Files) (name bytes : List ℕ) (a : A)
+    → IsReading (reads bytes) → IsFetchedFile held name project_limit bytes → reads bytes (accepted a) → IfSome held (λ files. P (next files a)) → AfterFetch reads next P held name
+at_accepted reads next P None name bytes a is h p k = tt
+at_accepted reads next P (Some files) name bytes a is h p k = λ loading l.
+    subst P
+    (sym (fetched_ok which.Project project_limit (get files name) bytes (λ b. loaded loading (next files)) h.is h.small
+    ∙ accepted_ok (reads bytes) is a loading (next files) p (read_bytes reads (get files name) bytes loading h.is l)))
+    k
+
+pub at_end : (P : Outcome → Type 0) (held : Option Files) (form : Form) (script : List ℕ) (p : Project) → IsFetchedFile held form.script script_limit script
+    → P (all_of (played p 1 (first_world p) (lines_of script))) → IfSome held (λ files. P (after_load form files p))
+at_end P None form script p h q = tt
+at_end P (Some files) form script p h q =
+    subst P (sym (fetched_ok which.Script script_limit (get files form.script) script (λ s. all_of (played p 1 (first_world p) (lines_of s))) h.is h.small)) q
+
+pub everywhere : {P : Type 0} (held : Option Files) → P → IfSome held (λ files. P)
+everywhere None p = tt
+everywhere (Some files) p = p
 
 -- a project file that was fetched, and a project that was loaded
 
@@ -83,76 +168,69 @@ is_fetched (unloaded (missing which.Project)) h = absurd h
 is_fetched (unloaded (missing which.Script)) h = tt
 is_fetched (unloaded (too_large which.Project limit)) h = absurd h
 is_fetched (unloaded (too_large which.Script limit)) h = tt
-is_fetched (unloaded (no_document r)) h = tt
-is_fetched (unloaded no_project) h = tt
+is_fetched (unloaded (not_accepted r)) h = tt
 is_fetched (ran ending) h = tt
 
-accepted_fetched : (files : Files) (form : Form) (loading : Loading) → IsFetched (accepted loading (after_load files form)).ending
-accepted_fetched files form (not_json r) = tt
-accepted_fetched files form not_first_form = tt
-accepted_fetched files form (loaded p) = is_fetched _ (loaded_ending (get files form.script) p)
-
--- What is said of the outcome, at each stage at which a call ends.
-
-abbrev pub Told : (Outcome → Type 0) → Option Files → Form → Type 0
-Told P held form = IfSome held (λ files. (loading : Loading) → LoadsFile (get files form.project) loading → P (outcome_of files form loading))
-
--- of every outcome
-pub always : (P : Outcome → Type 0) (held : Option Files) (form : Form) → ((o : Outcome) → P o) → Told P held form
-always P None form k = tt
-always P (Some files) form k = λ loading l. k (outcome_of files form loading)
-
-pub at_load : (P : Outcome → Type 0) (held : Option Files) (form : Form) (bytes : List ℕ) → length bytes ≤ project_limit → IfSome held (λ files. get files form.project ≡ Some bytes)
-    → ((next : Project → Outcome) → ((p : Project) → IsFetched (next p).ending) → (loading : Loading) → Loads bytes loading → P (accepted loading next)) → Told P held form
-at_load P None form bytes h e k = tt
-at_load P (Some files) form bytes h e k = λ loading l.
-    subst P (sym (outcome_loading files form bytes loading e h))
-    (k (after_load files form) (λ p. is_fetched _ (loaded_ending (get files form.script) p)) loading (loads_bytes (get files form.project) bytes loading e l))
-
-pub at_script : (P : Outcome → Type 0) (held : Option Files) (form : Form) (bytes : List ℕ) (p : Project) → length bytes ≤ project_limit → IfSome held (λ files. get files form.project ≡ Some bytes)
-    → Loads bytes (loaded p) → IfSome held (λ files. P (after_load files form p)) → Told P held form
-at_script P None form bytes p h e a k = tt
-at_script P (Some files) form bytes p h e a k = λ loading l. subst P (sym (outcome_loaded files form bytes p loading e h a l)) k
-
-pub at_end : (P : Outcome → Type 0) (held : Option Files) (form : Form) (bytes script : List ℕ) (p : Project) → length bytes ≤ project_limit → IfSome held (λ files. get files form.project ≡ Some bytes)
-    → Loads bytes (loaded p) → length script ≤ script_limit → IfSome held (λ files. get files form.script ≡ Some script)
-    → P (all_of (played p 1 (first_world p) (lines_of script))) → Told P held form
-at_end P None form bytes script p h e a k f q = tt
-at_end P (Some files) form bytes script p h e a k f q = λ loading l.
-    subst P
-    (sym (outcome_loaded files form bytes p loading e h a l
-    ∙ fetched_ok which.Script script_limit (get files form.script) script (λ s. all_of (played p 1 (first_world p) (lines_of s))) f k))
-    q
+pub loaded_fetched : (form : Form) (files : Files) (p : Project) → IsFetched (after_load form files p).ending
+loaded_fetched form files p = is_fetched _ (loaded_ending (get files form.script) p)
 
 -- A project that is refused.
 
-pub refused : (bytes : List ℕ) (failed wanted : Type 0) (status : Status) (next : Project → Outcome) → ((p : Project) → IsFetched (next p).ending) → Loaded bytes (Err status)
-    → (loading : Loading) → Loads bytes loading → AnswerCause failed wanted (accepted loading next).ending status
-refused bytes failed wanted (BadProject (refusal.Json r)) next k a (not_json s) b = ap (λ x. unloaded (no_document x)) (same_fault nesting_limit bytes s r b a)
-refused bytes failed wanted (BadProject (refusal.Json r)) next k a not_first_form b = absurd (text_no_fault nesting_limit bytes b.0 r b.1 a)
-refused bytes failed wanted (BadProject (refusal.Json r)) next k a (loaded p) b = absurd (text_no_fault nesting_limit bytes b.0 r b.1 a)
-refused bytes failed wanted (BadProject (refusal.Shape path)) next k a (not_json s) b = absurd (text_no_fault nesting_limit bytes a.1.0 s a.1.1 b)
-refused bytes failed wanted (BadProject (refusal.Shape path)) next k a not_first_form b = (a.0, refl)
-refused bytes failed wanted (BadProject (refusal.Shape path)) next k a (loaded p) b = absurd (none_loaded bytes p b a.1)
-refused bytes failed wanted NoMemory next k a (not_json s) b = inr tt
-refused bytes failed wanted NoMemory next k a not_first_form b = inr tt
-refused bytes failed wanted NoMemory next k a (loaded p) b = inr (k p)
-refused bytes failed wanted Done next k a loading b = absurd a
-refused bytes failed wanted Usage next k a loading b = absurd a
-refused bytes failed wanted ReadFault next k a loading b = absurd a
-refused bytes failed wanted WriteFault next k a loading b = absurd a
-refused bytes failed wanted (BadScript r) next k a loading b = absurd a
-refused bytes failed wanted (TooLarge file limit) next k a loading b = absurd a
+pub refused_cause : {A B : Type 0} (reads : Loading A → Type 0) (view : B → A) → IsReading reads → (failed wanted : Type 0) (status : Status) (next : A → Outcome) → ((a : A) → IsFetched (next a).ending)
+    → Loaded reads view (Err status) → (loading : Loading A) → reads loading → AnswerCause failed wanted (loaded loading next).ending status
+refused_cause reads view is failed wanted (BadProject r) next k h (refused s) q = ap (λ x. unloaded (not_accepted x)) (is.one s r q h.1)
+refused_cause reads view is failed wanted (BadProject r) next k h (accepted a) q = absurd (is.apart a r q h.1)
+refused_cause reads view is failed wanted NoMemory next k h (refused s) q = inr tt
+refused_cause reads view is failed wanted NoMemory next k h (accepted a) q = inr (k a)
+refused_cause reads view is failed wanted Done next k h loading q = absurd h
+refused_cause reads view is failed wanted Usage next k h loading q = absurd h
+refused_cause reads view is failed wanted ReadFault next k h loading q = absurd h
+refused_cause reads view is failed wanted WriteFault next k h loading q = absurd h
+refused_cause reads view is failed wanted (BadScript r) next k h loading q = absurd h
+refused_cause reads view is failed wanted (TooLarge file limit) next k h loading q = absurd h
+
+-- a refusal of a reader, told
+pub refused_load : {A B : Type 0} (reads : Loading A → Type 0) (view : B → A) (r : Refusal) (status : Status) → RefusedAs r status → (IsSome (text_of_refusal r) → reads (refused r)) → Loaded reads view (Err status)
+refused_load reads view r (BadProject s) h k = (h.1, subst (λ x. reads (refused x)) (sym h.0) (k (subst (λ x. IsSome (text_of_refusal x)) h.0 h.1)))
+refused_load reads view r NoMemory h k = tt
+refused_load reads view r Done h k = absurd h
+refused_load reads view r Usage h k = absurd h
+refused_load reads view r ReadFault h k = absurd h
+refused_load reads view r WriteFault h k = absurd h
+refused_load reads view r (BadScript l) h k = absurd h
+refused_load reads view r (TooLarge file l) h k = absurd h
+
+-- a JSON fault
+pub json_cause : (bytes : List ℕ) (f : JsonRefusal) → IsCause max_depth bytes f → IsSome (text_of_refusal (refusal.Json f)) → Loads bytes (refused (refusal.Json f))
+json_cause bytes (json_refusal.NotUtf8 at) h k = h
+json_cause bytes (json_refusal.Syntax at) h k = h
+json_cause bytes (json_refusal.TooDeep at) h k = h
+json_cause bytes json_refusal.NoMemory h k = cc k
+
+-- a refusal of the loader
+pub load_cause : (bytes : List ℕ) (r : Refusal) → LoadsProject bytes (Err r) → IsSome (text_of_refusal r) → Checks bytes (refused r)
+load_cause bytes (refusal.Json f) h k = h
+load_cause bytes (refusal.Shape path) h k = h
+load_cause bytes (refusal.StageCount n) h k = h
+load_cause bytes (refusal.TooMany path) h k = h
+load_cause bytes (refusal.Mutation at why) h k = h
+load_cause bytes (refusal.Dangling at to) h k = h
+load_cause bytes (refusal.Cyclic at) h k = h
+load_cause bytes (refusal.Opcode at name) h k = h
+load_cause bytes (refusal.MissingInput at input) h k = h
+load_cause bytes (refusal.Field at field) h k = h
+load_cause bytes (refusal.TooDeep at) h k = h
+load_cause bytes refusal.NoMemory h k = cc k
 
 -- A script that is not fetched.
 
 script_cause : (A : Type 0) (items : A → List ℕ) (files : Files) (form : Form) (p : Project) (failed wanted script_failed script_wanted : Type 0) (status : Status)
-    → Fetched (Some files) form.script which.Script script_limit script_failed script_wanted items (Err status) → AnswerCause failed wanted (after_load files form p).ending status
+    → Fetched (Some files) form.script which.Script script_limit script_failed script_wanted items (Err status) → AnswerCause failed wanted (after_load form files p).ending status
 script_cause A items files form p failed wanted f w ReadFault h = inr (loaded_ending (get files form.script) p)
 script_cause A items files form p failed wanted f w (TooLarge file limit) h =
     ap (λ (o : Outcome). o.ending) (fetched_large which.Script script_limit (get files form.script) (λ script. all_of (played p 1 (first_world p) (lines_of script))) h.2)
     ∙ ap (λ x. unloaded (too_large x script_limit)) (sym h.0) ∙ ap (λ l. unloaded (too_large file l)) (sym h.1)
-script_cause A items files form p failed wanted f w NoMemory h = inr (is_fetched _ (loaded_ending (get files form.script) p))
+script_cause A items files form p failed wanted f w NoMemory h = inr (loaded_fetched form files p)
 script_cause A items files form p failed wanted f w Done h = absurd h
 script_cause A items files form p failed wanted f w Usage h = absurd h
 script_cause A items files form p failed wanted f w WriteFault h = absurd h
@@ -160,7 +238,7 @@ script_cause A items files form p failed wanted f w (BadProject r) h = absurd h
 script_cause A items files form p failed wanted f w (BadScript r) h = absurd h
 
 pub script_causes : (A : Type 0) (items : A → List ℕ) (held : Option Files) (form : Form) (p : Project) (failed wanted script_failed script_wanted : Type 0) (status : Status)
-    → Fetched held form.script which.Script script_limit script_failed script_wanted items (Err status) → IfSome held (λ files. AnswerCause failed wanted (after_load files form p).ending status)
+    → Fetched held form.script which.Script script_limit script_failed script_wanted items (Err status) → IfSome held (λ files. AnswerCause failed wanted (after_load form files p).ending status)
 script_causes A items None form p failed wanted f w status h = tt
 script_causes A items (Some files) form p failed wanted f w status h = script_cause A items files form p failed wanted f w status h
 
@@ -181,7 +259,7 @@ project_is_no_script e = cc
 
 -- the script is fetched second
 pub script_fetches : (A : Type 0) (items : A → List ℕ) (held : Option Files) (name : List ℕ) (limit : ℕ) (failed wanted : Type 0) (status : Status)
-    → Fetched held name which.Script limit failed wanted items (Err status) → FetchesOf status 2
+    → Fetched held name which.Script limit failed wanted items (Err status) → FetchesOf 2 status 2
 script_fetches A items held name limit failed wanted ReadFault h = (omega arith, omega arith)
 script_fetches A items held name limit failed wanted (TooLarge which.Project l) h = absurd (project_is_no_script h.0)
 script_fetches A items held name limit failed wanted (TooLarge which.Script l) h = refl
@@ -203,7 +281,7 @@ played_cause ending failed wanted write_failed ReadFault h = absurd h
 played_cause ending failed wanted write_failed (BadProject r) h = absurd h
 played_cause ending failed wanted write_failed (TooLarge file limit) h = absurd h
 
-pub played_fetches : (ending : RunEnding) (write_failed : Type 0) (status : Status) → PlayedTo ending write_failed status → FetchesOf status 2
+pub played_fetches : (ending : RunEnding) (write_failed : Type 0) (status : Status) → PlayedTo ending write_failed status → FetchesOf 2 status 2
 played_fetches ending write_failed Done h = refl
 played_fetches ending write_failed (BadScript r) h = refl
 played_fetches ending write_failed WriteFault h = refl
@@ -212,3 +290,14 @@ played_fetches ending write_failed Usage h = absurd h
 played_fetches ending write_failed ReadFault h = absurd h
 played_fetches ending write_failed (BadProject r) h = absurd h
 played_fetches ending write_failed (TooLarge file limit) h = absurd h
+
+-- The counts were told.
+pub told_fetches : (write_failed : Type 0) (status : Status) → PlayedTo whole write_failed status → FetchesOf 1 status 1
+told_fetches write_failed Done h = refl
+told_fetches write_failed (BadScript r) h = refl
+told_fetches write_failed WriteFault h = refl
+told_fetches write_failed NoMemory h = omega arith
+told_fetches write_failed Usage h = absurd h
+told_fetches write_failed ReadFault h = absurd h
+told_fetches write_failed (BadProject r) h = absurd h
+told_fetches write_failed (TooLarge file limit) h = absurd h

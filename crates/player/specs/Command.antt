@@ -9,9 +9,10 @@ pub record Form : Type 0 where
   pub project : List ℕ
   pub script : List ℕ
 
--- what the words ask for
+-- what the words ask for: to play a project, or to check the project in a file
 pub data Command : Type 0 where
   play : Form → Command
+  check : (project : List ℕ) → Command
 
 -- the seed is a whole number below 2^64; this form of a project draws no random word
 abbrev pub play_by : List ℕ → List ℕ → List ℕ → List ℕ → Option ℕ → List ℕ → Option Command
@@ -19,11 +20,17 @@ play_by command project script seed None save = None
 play_by command project script seed (Some number) save =
     if bytes_eq command (codes "play") && bytes_eq save (codes "-") then Some (play (record { project = project; script = script })) else None
 
+-- `check PROJECT`
+abbrev pub check_by : List ℕ → List ℕ → Option Command
+check_by command project = if bytes_eq command (codes "check") then Some (check project) else None
+
 -- the command of the words, without the program's name
 abbrev pub command_of : List (List ℕ) → Option Command
 command_of (command ∷ project ∷ script ∷ seed ∷ save ∷ []) = play_by command project script seed (whole_up_to (2 ^ 64 - 1) seed) save
+command_of (command ∷ project ∷ []) = check_by command project
 command_of words = None
 
 -- a helper of private functions: a command without where its words lie in memory
 abbrev pub command_view : CommandOfWords → Command
 command_view (words.Play project script) = play (record { project = project.now; script = script.now })
+command_view (words.Check project) = check project.now

@@ -9,10 +9,6 @@ project_limit = 32 * 2 ^ 20
 abbrev pub script_limit : ℕ
 script_limit = 16 * 2 ^ 20
 
--- how deep the brackets and braces of a project nest
-abbrev pub nesting_limit : ℕ
-nesting_limit = 256
-
 -- the clock of a frame line, in milliseconds
 abbrev pub clock_limit : ℕ
 clock_limit = 9 * 10 ^ 12

@@ -2,50 +2,71 @@
 --
 -- The machine that it speaks of is that of sequencer/specs: threads with lists of statements, slices, passes, frames.
 -- A frame's text is that of FrameText; Output goes through the lines of a script; Command and Lines read words and lines;
--- Limits names the numbers.
-use Rattle.std.specs.Prelude.{◌≡◌, ◌⊎◌, ℕ, zero, suc, ◌<◌, ◌≤◌, nat_lt, List, [], length, take, Option, None, Some, IfSome, if◌then◌else◌}
+-- Limits names the numbers. Which project files are accepted, and the refusal of the others, is that of
+-- project_file/specs, Refusals.
+use Rattle.std.specs.Prelude.{◌≡◌, ◌⊎◌, ℕ, zero, suc, ◌<◌, ◌≤◌, nat_lt, List, [], ◌∷◌, length, take, codes, Option, None, Some, IfSome, IsSome, if◌then◌else◌}
+use Rattle.std.specs.Fmt.{decimal}
 use Rattle.std.specs.List.{concat}
 use Rattle.std.specs.FinMap.{get}
 use Rattle.sv_channels.specs.Counts.{next_count, Rose, NoneRose}
 use Rattle.sv_channels.specs.Files.{Files}
 use Rattle.sv_channels.specs.Sink.{Gained, GainedPart}
 use Rattle.project_json.specs.Tree.{Tree}
-use Rattle.project_json.specs.Text.{IsText}
+use Rattle.project_json.specs.Text.{IsText, max_depth}
 use Rattle.project_json.specs.Refusal.{IsFault}
-use Rattle.project_json.specs.declared.refusal.JsonRefusal.{JsonRefusal}
-use Rattle.project_json.specs.declared.refusal.JsonRefusal.TheVariants as json_refusal
+use Rattle.project_file.specs.Reading.{File, blocks_in}
+use Rattle.project_file.specs.Refusals.{IsRefusal, IsAccepted}
+use Rattle.project_file.specs.declared.refusals.Refusal.{Refusal}
+use Rattle.project_file.specs.declared.refusals.Refusal.TheVariants as refusal
+use Rattle.project_check.specs.Counts.{block_count}
 use Rattle.first_projects.specs.FirstProject.{Project}
 use Rattle.first_projects.specs.FirstForm.{project_of}
 use Rattle.sequencer.specs.Frame.{first_world}
-use Rattle.player.specs.Limits.{project_limit, script_limit, nesting_limit}
-use Rattle.player.specs.Command.{Form, play, command_of}
+use Rattle.player.specs.Limits.{project_limit, script_limit}
+use Rattle.player.specs.Command.{Form, Command, play, check, command_of}
+use Rattle.player.specs.FrameText.{line}
 use Rattle.player.specs.Lines.{lines_of}
 use Rattle.player.specs.Output.{RunEnding, whole, bad_line, Played, played}
+use Rattle.player.specs.Told.{text_of_refusal}
+use Rattle.player.specs.declared.counts.Counts.{Counts}
 use Rattle.player.specs.declared.status.Which.{Which}
 use Rattle.player.specs.declared.status.Which.TheVariants as which
-use Rattle.player.specs.declared.status.Refusal.TheVariants as refusal
 use Rattle.player.specs.declared.script.LineRefusal.TheVariants as line_refusal
 use Rattle.player.specs.declared.status.Status.{Status}
 use Rattle.player.specs.declared.status.Status.TheVariants.{Done, Usage, ReadFault, WriteFault, BadProject, BadScript, TooLarge, NoMemory}
 
 -- 1. What a project file stands for
 
-pub data Loading : Type 0 where
-  not_json : JsonRefusal → Loading
-  not_first_form : Loading
-  loaded : Project → Loading
+-- the file is refused, or accepted as this
+pub data Loading (A : Type 0) : Type 0 where
+  refused : Refusal → Loading A
+  accepted : A → Loading A
 
 -- The bytes are no JSON text nested at most 256 deep (RFC 8259) and have this fault, or are one of a document that is
--- not of the first form, or one of a document that tells the project.
-abbrev pub Loads : List ℕ → Loading → Type 0
-Loads bytes (not_json refusal) = IsFault nesting_limit bytes refusal
-Loads bytes not_first_form = (t : Tree) × IsText nesting_limit bytes t × (project_of t ≡ None)
-Loads bytes (loaded p) = (t : Tree) × IsText nesting_limit bytes t × (project_of t ≡ Some p)
+-- not of the first form.
+abbrev pub IsNotFirstForm : List ℕ → Refusal → Type 0
+IsNotFirstForm bytes (refusal.Json fault) = IsFault max_depth bytes fault
+IsNotFirstForm bytes (refusal.Shape path) = (path ≡ []) × ((t : Tree) × IsText max_depth bytes t × (project_of t ≡ None))
+IsNotFirstForm bytes _ = ⊥
+
+-- what is played today: a project of the first form
+abbrev pub Loads : List ℕ → Loading Project → Type 0
+Loads bytes (refused r) = IsNotFirstForm bytes r
+Loads bytes (accepted p) = (t : Tree) × IsText max_depth bytes t × (project_of t ≡ Some p)
+
+-- how many targets and blocks a file has
+abbrev pub counts_of : File → Counts
+counts_of f = record { targets = length (blocks_in f); blocks = block_count (blocks_in f) }
+
+-- what is checked: the whole project
+abbrev pub Checks : List ℕ → Loading Counts → Type 0
+Checks bytes (refused r) = IsRefusal bytes r
+Checks bytes (accepted c) = (f : File) × IsAccepted bytes f × (c ≡ counts_of f)
 
 -- the same of a file that may not be held
-abbrev pub LoadsFile : Option (List ℕ) → Loading → Type 0
-LoadsFile None loading = Unit {0}
-LoadsFile (Some bytes) loading = Loads bytes loading
+abbrev pub OfFile : {A : Type 0} → (List ℕ → Loading A → Type 0) → Option (List ℕ) → Loading A → Type 0
+OfFile reads None loading = Unit {0}
+OfFile reads (Some bytes) loading = reads bytes loading
 
 -- 2. What the call writes and answers where nothing fails: the order of work
 
@@ -53,53 +74,67 @@ LoadsFile (Some bytes) loading = Loads bytes loading
 pub data LoadEnding : Type 0 where
   missing : Which → LoadEnding
   too_large : Which → ℕ → LoadEnding
-  no_document : JsonRefusal → LoadEnding
-  no_project : LoadEnding
+  not_accepted : Refusal → LoadEnding
 
 pub data Ending : Type 0 where
   unloaded : LoadEnding → Ending
   ran : RunEnding → Ending
 
--- the texts of the frames, each one write, and the ending
+-- the texts that are written, each by one write, and the ending
 pub record Outcome : Type 0 where
-  pub frames : List (List ℕ)
+  pub texts : List (List ℕ)
   pub ending : Ending
 
 abbrev pub ends : LoadEnding → Outcome
-ends ending = record { frames = []; ending = unloaded ending }
+ends ending = record { texts = []; ending = unloaded ending }
 
 abbrev pub all_of : Played → Outcome
-all_of run = record { frames = run.frames; ending = ran run.ending }
+all_of run = record { texts = run.frames; ending = ran run.ending }
 
 -- a file that is held and within its limit
 abbrev pub fetched : Which → ℕ → Option (List ℕ) → (List ℕ → Outcome) → Outcome
 fetched file limit None next = ends (missing file)
 fetched file limit (Some bytes) next = if nat_lt limit (length bytes) then ends (too_large file limit) else next bytes
 
-abbrev pub accepted : Loading → (Project → Outcome) → Outcome
-accepted (not_json refusal) next = ends (no_document refusal)
-accepted not_first_form next = ends no_project
-accepted (loaded p) next = next p
+abbrev pub loaded : {A : Type 0} → Loading A → (A → Outcome) → Outcome
+loaded (refused r) next = ends (not_accepted r)
+loaded (accepted a) next = next a
 
 -- fetch and load the project (32 MiB), fetch the script (16 MiB), play its lines from the first world on
-abbrev pub outcome_of : Files → Form → Loading → Outcome
+abbrev pub outcome_of : Files → Form → Loading Project → Outcome
 outcome_of files form loading =
     fetched which.Project project_limit (get files form.project) (λ project.
-    accepted loading (λ p.
+    loaded loading (λ p.
     fetched which.Script script_limit (get files form.script) (λ script.
     all_of (played p 1 (first_world p) (lines_of script)))))
 
+-- `accepted T B`: T targets and B blocks
+abbrev pub accepted_line : Counts → List ℕ
+accepted_line c = line (codes "accepted" ∷ decimal c.targets ∷ decimal c.blocks ∷ [])
+
+abbrev pub told_counts : Counts → Outcome
+told_counts c = record { texts = accepted_line c ∷ []; ending = ran whole }
+
+-- fetch the project (32 MiB), check it, and tell its counts
+abbrev pub check_outcome : Files → List ℕ → Loading Counts → Outcome
+check_outcome files project loading = fetched which.Project project_limit (get files project) (λ bytes. loaded loading told_counts)
+
 -- 3. The causes of each status
 
--- a fetch of a file that the form names has failed in this call
-abbrev pub FetchFailed : (List ℕ → ℕ) → (List ℕ → ℕ) → Form → Type 0
-FetchFailed before after form = Rose (before form.project) (after form.project) ⊎ Rose (before form.script) (after form.script)
+-- the name of the project file
+abbrev pub project_name : Command → List ℕ
+project_name (play form) = form.project
+project_name (check project) = project
+
+-- a fetch of a file that the words name has failed in this call
+abbrev pub FetchFailed : (List ℕ → ℕ) → (List ℕ → ℕ) → Command → Type 0
+FetchFailed before after (play form) = Rose (before form.project) (after form.project) ⊎ Rose (before form.script) (after form.script)
+FetchFailed before after (check project) = Rose (before project) (after project)
 
 -- the status tells the ending
 abbrev pub Tells : Status → Ending → Type 0
 Tells Done ending = ending ≡ ran whole
-Tells (BadProject (refusal.Json r)) ending = ending ≡ unloaded (no_document r)
-Tells (BadProject (refusal.Shape path)) ending = (path ≡ []) × (ending ≡ unloaded no_project)
+Tells (BadProject r) ending = ending ≡ unloaded (not_accepted r)
 Tells (BadScript (line_refusal.UnknownLine line)) ending = ending ≡ ran (bad_line line)
 Tells (TooLarge file limit) ending = ending ≡ unloaded (too_large file limit)
 Tells Usage ending = ⊥
@@ -113,18 +148,16 @@ IsFetched (unloaded (missing which.Project)) = ⊥
 IsFetched (unloaded (missing which.Script)) = Unit {0}
 IsFetched (unloaded (too_large which.Project limit)) = ⊥
 IsFetched (unloaded (too_large which.Script limit)) = Unit {0}
-IsFetched (unloaded (no_document r)) = Unit {0}
-IsFetched (unloaded no_project) = Unit {0}
+IsFetched (unloaded (not_accepted r)) = Unit {0}
 IsFetched (ran ending) = Unit {0}
 
--- and it tells a project
+-- and it is accepted
 abbrev pub IsLoaded : Ending → Type 0
 IsLoaded (unloaded (missing which.Project)) = ⊥
 IsLoaded (unloaded (missing which.Script)) = Unit {0}
 IsLoaded (unloaded (too_large which.Project limit)) = ⊥
 IsLoaded (unloaded (too_large which.Script limit)) = Unit {0}
-IsLoaded (unloaded (no_document r)) = ⊥
-IsLoaded (unloaded no_project) = ⊥
+IsLoaded (unloaded (not_accepted r)) = ⊥
 IsLoaded (ran ending) = Unit {0}
 
 -- a fault only where its count rose; want of memory stands in no other status
@@ -133,11 +166,7 @@ FaultCause fetch_failed write_failed ReadFault = fetch_failed
 FaultCause fetch_failed write_failed WriteFault = write_failed
 FaultCause fetch_failed write_failed Done = Unit {0}
 FaultCause fetch_failed write_failed Usage = Unit {0}
-FaultCause fetch_failed write_failed (BadProject (refusal.Json json_refusal.NoMemory)) = ⊥
-FaultCause fetch_failed write_failed (BadProject (refusal.Json (json_refusal.NotUtf8 at))) = Unit {0}
-FaultCause fetch_failed write_failed (BadProject (refusal.Json (json_refusal.Syntax at))) = Unit {0}
-FaultCause fetch_failed write_failed (BadProject (refusal.Json (json_refusal.TooDeep at))) = Unit {0}
-FaultCause fetch_failed write_failed (BadProject (refusal.Shape path)) = Unit {0}
+FaultCause fetch_failed write_failed (BadProject r) = IsSome (text_of_refusal r)
 FaultCause fetch_failed write_failed (BadScript r) = Unit {0}
 FaultCause fetch_failed write_failed (TooLarge file limit) = Unit {0}
 FaultCause fetch_failed write_failed NoMemory = Unit {0}
@@ -167,17 +196,17 @@ HidesNothing fetches fetches_now writes writes_now NoMemory = NoneRose fetches f
 
 -- 4. What was written
 
--- all frames of the outcome; after a failed write a prefix of them; after want of memory whole ones; before any line
+-- all texts of the outcome; after a failed write a prefix of them; after want of memory whole ones; before any line
 -- was played, nothing
 abbrev pub Wrote : Option (List ℕ) → Option (List ℕ) → List (List ℕ) → Status → Type 0
-Wrote old new frames Done = Gained old new (concat frames)
-Wrote old new frames (BadScript r) = Gained old new (concat frames)
-Wrote old new frames WriteFault = GainedPart old new (concat frames)
-Wrote old new frames NoMemory = (n : ℕ) × Gained old new (concat (take n frames))
-Wrote old new frames Usage = Gained old new []
-Wrote old new frames ReadFault = Gained old new []
-Wrote old new frames (BadProject r) = Gained old new []
-Wrote old new frames (TooLarge file limit) = Gained old new []
+Wrote old new texts Done = Gained old new (concat texts)
+Wrote old new texts (BadScript r) = Gained old new (concat texts)
+Wrote old new texts WriteFault = GainedPart old new (concat texts)
+Wrote old new texts NoMemory = (n : ℕ) × Gained old new (concat (take n texts))
+Wrote old new texts Usage = Gained old new []
+Wrote old new texts ReadFault = Gained old new []
+Wrote old new texts (BadProject r) = Gained old new []
+Wrote old new texts (TooLarge file limit) = Gained old new []
 
 -- a status that comes before any line is played leaves nothing written, whatever is told of the files
 abbrev pub IsSilent : Option (List ℕ) → Option (List ℕ) → Status → Type 0
@@ -197,37 +226,51 @@ abbrev pub counted : ℕ → ℕ → ℕ
 counted zero count = count
 counted (suc n) count = counted n (next_count count)
 
+-- how many files a command fetches
+abbrev pub files_of : Command → ℕ
+files_of (play form) = 2
+files_of (check project) = 1
+
 -- each file is fetched once at most, in the order of work
-abbrev pub FetchesOf : Status → ℕ → Type 0
-FetchesOf Usage n = n ≡ 0
-FetchesOf (BadProject r) n = n ≡ 1
-FetchesOf (TooLarge which.Project limit) n = n ≡ 1
-FetchesOf (TooLarge which.Script limit) n = n ≡ 2
-FetchesOf Done n = n ≡ 2
-FetchesOf (BadScript r) n = n ≡ 2
-FetchesOf WriteFault n = n ≡ 2
-FetchesOf ReadFault n = (1 ≤ n) × (n ≤ 2)
-FetchesOf NoMemory n = n ≤ 2
+abbrev pub FetchesOf : (files : ℕ) → Status → ℕ → Type 0
+FetchesOf files Usage n = n ≡ 0
+FetchesOf files (BadProject r) n = n ≡ 1
+FetchesOf files (TooLarge which.Project limit) n = n ≡ 1
+FetchesOf files (TooLarge which.Script limit) n = n ≡ 2
+FetchesOf files Done n = n ≡ files
+FetchesOf files (BadScript r) n = n ≡ files
+FetchesOf files WriteFault n = n ≡ files
+FetchesOf files ReadFault n = (1 ≤ n) × (n ≤ files)
+FetchesOf files NoMemory n = n ≤ files
 
 -- the shelf was called so often
-abbrev pub Fetches : ℕ → ℕ → Status → Type 0
-Fetches before after status = (n : ℕ) × FetchesOf status n × (after ≡ counted n before)
+abbrev pub Fetches : ℕ → ℕ → (files : ℕ) → Status → Type 0
+Fetches before after files status = (n : ℕ) × FetchesOf files status n × (after ≡ counted n before)
 
--- one write for each frame: for all frames of the outcome; up to the one that failed; or for some, before want of memory
+-- words that ask for nothing fetch nothing
+abbrev pub FetchesFor : ℕ → ℕ → Option Command → Status → Type 0
+FetchesFor before after None status = after ≡ before
+FetchesFor before after (Some command) status = Fetches before after (files_of command) status
+
+-- one write for each text: for all texts of the outcome; up to the one that failed; or for some, before want of memory
 abbrev pub Writes : ℕ → ℕ → List (List ℕ) → Status → Type 0
-Writes before after frames Done = after ≡ counted (length frames) before
-Writes before after frames (BadScript r) = after ≡ counted (length frames) before
-Writes before after frames WriteFault = (n : ℕ) × (n < length frames) × (after ≡ counted (suc n) before)
-Writes before after frames NoMemory = (n : ℕ) × (n ≤ length frames) × (after ≡ counted n before)
-Writes before after frames Usage = after ≡ before
-Writes before after frames ReadFault = after ≡ before
-Writes before after frames (BadProject r) = after ≡ before
-Writes before after frames (TooLarge file limit) = after ≡ before
+Writes before after texts Done = after ≡ counted (length texts) before
+Writes before after texts (BadScript r) = after ≡ counted (length texts) before
+Writes before after texts WriteFault = (n : ℕ) × (n < length texts) × (after ≡ counted (suc n) before)
+Writes before after texts NoMemory = (n : ℕ) × (n ≤ length texts) × (after ≡ counted n before)
+Writes before after texts Usage = after ≡ before
+Writes before after texts ReadFault = after ≡ before
+Writes before after texts (BadProject r) = after ≡ before
+Writes before after texts (TooLarge file limit) = after ≡ before
 
--- 6. Of which calls a clause speaks: what the shelf holds is told, the words have a form, and the project file stands
--- for the loading
+-- 6. Of which calls a clause speaks: what the shelf holds is told, and the project file stands for the loading
 
-abbrev pub Promised : Option Files → List (List ℕ) → (Form → Outcome → Type 0) → Type 0
-Promised held words fact =
-    IfSome held (λ files. (form : Form) → command_of words ≡ Some (play form)
-    → (loading : Loading) → LoadsFile (get files form.project) loading → fact form (outcome_of files form loading))
+abbrev pub Promised : Option Files → Command → (Outcome → Type 0) → Type 0
+Promised held (play form) fact =
+    IfSome held (λ files. (loading : Loading Project) → OfFile Loads (get files form.project) loading → fact (outcome_of files form loading))
+Promised held (check project) fact =
+    IfSome held (λ files. (loading : Loading Counts) → OfFile Checks (get files project) loading → fact (check_outcome files project loading))
+
+-- the words ask for something
+abbrev pub Asked : List (List ℕ) → (Command → Type 0) → Type 0
+Asked words fact = IfSome (command_of words) fact

@@ -1,16 +1,16 @@
 -- Helpers of private functions: what the stages of a call answer and count. They are a fetch, a load, a line, and the
 -- lines of a script.
-use Rattle.std.specs.Prelude.{◌≡◌, ℕ, ◌≤◌, List, [], length, Option, Result, Ok, Err, ⊤}
+use Rattle.std.specs.Prelude.{◌≡◌, ℕ, ◌≤◌, List, [], length, Option, Result, Ok, Err, IsSome, ⊤}
 use Rattle.std.specs.List.{concat}
 use Rattle.sv_channels.specs.Counts.{NoneRose}
 use Rattle.sv_channels.specs.Files.{Files}
 use Rattle.sv_channels.specs.Shelf.{IsHeld, IsHeldAbove}
 use Rattle.sv_channels.specs.Sink.{Gained, GainedPart}
-use Rattle.first_projects.specs.FirstProject.{Project}
 use Rattle.player.specs.Output.{RunEnding, whole, bad_line}
-use Rattle.player.specs.Promise.{Loads, not_json, not_first_form, loaded, counted}
+use Rattle.project_file.specs.declared.refusals.Refusal.{Refusal}
+use Rattle.player.specs.Told.{text_of_refusal}
+use Rattle.player.specs.Promise.{Loading, refused, accepted, counted}
 use Rattle.player.specs.declared.status.Which.{Which}
-use Rattle.player.specs.declared.status.Refusal.TheVariants as refusal
 use Rattle.player.specs.declared.script.LineRefusal.TheVariants as line_refusal
 use Rattle.player.specs.declared.status.Status.{Status}
 use Rattle.player.specs.declared.status.Status.TheVariants.{Done, Usage, ReadFault, WriteFault, BadProject, BadScript, TooLarge, NoMemory}
@@ -39,18 +39,28 @@ FetchedSteadily before now (Err WriteFault) = ⊥
 FetchedSteadily before now (Err (BadProject r)) = ⊥
 FetchedSteadily before now (Err (BadScript r)) = ⊥
 
--- what a load answers
-abbrev pub Loaded : List ℕ → Result Project Status → Type 0
-Loaded bytes (Ok p) = Loads bytes (loaded p)
-Loaded bytes (Err (BadProject (refusal.Json r))) = Loads bytes (not_json r)
-Loaded bytes (Err (BadProject (refusal.Shape path))) = (path ≡ []) × Loads bytes not_first_form
-Loaded bytes (Err NoMemory) = Unit {0}
-Loaded bytes (Err Done) = ⊥
-Loaded bytes (Err Usage) = ⊥
-Loaded bytes (Err ReadFault) = ⊥
-Loaded bytes (Err WriteFault) = ⊥
-Loaded bytes (Err (BadScript r)) = ⊥
-Loaded bytes (Err (TooLarge file l)) = ⊥
+-- what a load answers, by what the file is read as
+abbrev pub Loaded : {A B : Type 0} → (Loading A → Type 0) → (B → A) → Result B Status → Type 0
+Loaded reads view (Ok b) = reads (accepted (view b))
+Loaded reads view (Err (BadProject r)) = IsSome (text_of_refusal r) × reads (refused r)
+Loaded reads view (Err NoMemory) = Unit {0}
+Loaded reads view (Err Done) = ⊥
+Loaded reads view (Err Usage) = ⊥
+Loaded reads view (Err ReadFault) = ⊥
+Loaded reads view (Err WriteFault) = ⊥
+Loaded reads view (Err (BadScript r)) = ⊥
+Loaded reads view (Err (TooLarge file l)) = ⊥
+
+-- the status of a refused project: the refusal, unless it is want of memory
+abbrev pub RefusedAs : Refusal → Status → Type 0
+RefusedAs r (BadProject s) = (s ≡ r) × IsSome (text_of_refusal s)
+RefusedAs r NoMemory = Unit {0}
+RefusedAs r Done = ⊥
+RefusedAs r Usage = ⊥
+RefusedAs r ReadFault = ⊥
+RefusedAs r WriteFault = ⊥
+RefusedAs r (BadScript l) = ⊥
+RefusedAs r (TooLarge file l) = ⊥
 
 -- what the play of a line answers, and what it wrote then
 abbrev pub LineWrote : Option (List ℕ) → Option (List ℕ) → List (List ℕ) → Type 0 → {A : Type 0} → Result A Status → Type 0

@@ -1,11 +1,34 @@
 -- What the command tells of a status: a text and an exit number.
-use Rattle.std.specs.Prelude.{ℕ, List, ◌++◌, Option, None, Some, codes}
+use Rattle.std.specs.Prelude.{ℕ, List, ◌++◌, Option, None, Some, codes, unwrap_or}
 use Rattle.std.specs.Fmt.{decimal}
 use Rattle.project_json.specs.declared.refusal.JsonRefusal.TheVariants as json_refusal
-use Rattle.player.specs.declared.status.Refusal.TheVariants as refusal
+use Rattle.project_file.specs.declared.refusals.MutationRefusal.TheVariants as mutation_refusal
+use Rattle.project_file.specs.declared.refusals.Refusal.{Refusal}
+use Rattle.project_file.specs.declared.refusals.Refusal.TheVariants as refusal
 use Rattle.player.specs.declared.script.LineRefusal.TheVariants as line_refusal
 use Rattle.player.specs.declared.status.Status.{Status}
 use Rattle.player.specs.declared.status.Status.TheVariants.{Done, Usage, ReadFault, WriteFault, BadProject, BadScript, TooLarge, NoMemory}
+
+-- the number of each refusal of a project; want of memory has none
+abbrev pub text_of_refusal : Refusal → Option (List ℕ)
+text_of_refusal (refusal.Json (json_refusal.NotUtf8 at)) = Some (codes "BadProject P1")
+text_of_refusal (refusal.Json (json_refusal.Syntax at)) = Some (codes "BadProject P1")
+text_of_refusal (refusal.Json (json_refusal.TooDeep at)) = Some (codes "BadProject P1")
+text_of_refusal (refusal.Json json_refusal.NoMemory) = None
+text_of_refusal (refusal.Shape path) = Some (codes "BadProject P2")
+text_of_refusal (refusal.StageCount n) = Some (codes "BadProject P3")
+text_of_refusal (refusal.TooMany path) = Some (codes "BadProject P4")
+text_of_refusal (refusal.Mutation at mutation_refusal.Missing) = Some (codes "BadProject P11")
+text_of_refusal (refusal.Mutation at mutation_refusal.BadText) = Some (codes "BadProject P11")
+text_of_refusal (refusal.Mutation at mutation_refusal.LengthsDiffer) = Some (codes "BadProject P11")
+text_of_refusal (refusal.Mutation at mutation_refusal.NoMemory) = None
+text_of_refusal (refusal.Dangling at to) = Some (codes "BadProject P6")
+text_of_refusal (refusal.Cyclic at) = Some (codes "BadProject P7")
+text_of_refusal (refusal.Opcode at name) = Some (codes "BadProject P5")
+text_of_refusal (refusal.MissingInput at input) = Some (codes "BadProject P8")
+text_of_refusal (refusal.Field at field) = Some (codes "BadProject P9")
+text_of_refusal (refusal.TooDeep at) = Some (codes "BadProject P10")
+text_of_refusal refusal.NoMemory = None
 
 -- the name of the status, with the number of a project's refusal, or the number of a line's refusal and the line
 abbrev pub text_of_status : Status → List ℕ
@@ -13,25 +36,21 @@ text_of_status Done = codes "Done"
 text_of_status Usage = codes "Usage"
 text_of_status ReadFault = codes "ReadFault"
 text_of_status WriteFault = codes "WriteFault"
-text_of_status (BadProject (refusal.Json (json_refusal.NotUtf8 at))) = codes "BadProject P1"
-text_of_status (BadProject (refusal.Json (json_refusal.Syntax at))) = codes "BadProject P1"
-text_of_status (BadProject (refusal.Json (json_refusal.TooDeep at))) = codes "BadProject P1"
-text_of_status (BadProject (refusal.Json json_refusal.NoMemory)) = codes "NoMemory"
-text_of_status (BadProject (refusal.Shape path)) = codes "BadProject P2"
+text_of_status (BadProject r) = unwrap_or (text_of_refusal r) (codes "NoMemory")
 text_of_status (BadScript (line_refusal.UnknownLine line)) = codes "BadScript 2 " ++ decimal line
 text_of_status (TooLarge file limit) = codes "TooLarge"
 text_of_status NoMemory = codes "NoMemory"
+
+abbrev pub exit_of_refusal : Option (List ℕ) → ℕ
+exit_of_refusal None = 9
+exit_of_refusal (Some text) = 4
 
 abbrev pub exit_of_status : Status → ℕ
 exit_of_status Done = 0
 exit_of_status Usage = 1
 exit_of_status ReadFault = 2
 exit_of_status WriteFault = 3
-exit_of_status (BadProject (refusal.Json (json_refusal.NotUtf8 at))) = 4
-exit_of_status (BadProject (refusal.Json (json_refusal.Syntax at))) = 4
-exit_of_status (BadProject (refusal.Json (json_refusal.TooDeep at))) = 4
-exit_of_status (BadProject (refusal.Json json_refusal.NoMemory)) = 9
-exit_of_status (BadProject (refusal.Shape path)) = 4
+exit_of_status (BadProject r) = exit_of_refusal (text_of_refusal r)
 exit_of_status (BadScript r) = 5
 exit_of_status (TooLarge file limit) = 8
 exit_of_status NoMemory = 9

@@ -38,8 +38,8 @@ fn push_quoted(out: &mut Vec<u8>, text: &str) -> Result<(), AllocError>
     Ok(())
 }
 
-// Appends a number from 0.
-fn push_natural(alloc: Global, out: &mut Vec<u8>, number: u64) -> Result<(), AllocError>
+/// Appends a number from 0.
+pub fn push_natural(alloc: Global, out: &mut Vec<u8>, number: u64) -> Result<(), AllocError>
     ensures { OnOk result (out.new.items ≡ out.old.items ++ decimal number) }
 {
     let text = number.to_string(alloc)?;

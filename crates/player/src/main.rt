@@ -2,6 +2,7 @@
 #![tactic(auto)]
 
 mod command;
+mod counts;
 mod frame_text;
 mod lines;
 mod pieces;

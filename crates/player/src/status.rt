@@ -1,11 +1,12 @@
 //! How a call ends.
 
-ghost use Rattle.std.specs.Prelude.{◌≡◌, IfOk, string_bytes};
-ghost use Rattle.player.specs.Told.{told_text, text_of_status, exit_of_status};
+ghost use Rattle.std.specs.Prelude.{◌≡◌, IfOk, string_bytes, option_map};
+ghost use Rattle.player.specs.Told.{told_text, text_of_refusal, text_of_status, exit_of_status};
 
 use crate::script::LineRefusal;
 use itoa::Buffer;
-use project_json::{JsonRefusal, Text};
+use project_file::{MutationRefusal, Refusal};
+use project_json::JsonRefusal;
 use std::alloc::{AllocError, Global};
 
 /// Which of the files that the words name.
@@ -15,29 +16,18 @@ pub enum Which {
     Script,
 }
 
-/// Why a project is refused. The numbers P1 and P2 are those of docs/refusals.md.
-#[derive(Debug, Drop)]
-pub enum Refusal {
-    /// P1: the bytes are no JSON text nested at most 256 deep; their fault and its place in bytes.
-    /// `NoMemory` never stands here.
-    Json(JsonRefusal),
-    /// P2: a member that is read has not its shape. The path is empty where the whole document is
-    /// meant.
-    Shape { path: Text },
-}
-
 /// How a call of `play` ends.
 #[derive(Debug, Drop)]
 pub enum Status {
-    /// The script was read to its last line.
+    /// All was done: the script was read to its last line, or the project was accepted and this was written.
     Done,
     /// The words are none of the forms.
     Usage,
     /// A file that the words name could not be read.
     ReadFault,
-    /// A frame could not be written.
+    /// A piece of the output could not be written.
     WriteFault,
-    /// The project is refused.
+    /// The project is refused. Want of memory never stands here.
     BadProject(Refusal),
     /// A line of the script is refused.
     BadScript(LineRefusal),
@@ -45,6 +35,33 @@ pub enum Status {
     TooLarge { which: Which, limit: u64 },
     /// Memory ran out.
     NoMemory,
+}
+
+/// The name that tells why a project is refused, with the number of the refusal, or `None` where memory ran out. The
+/// numbers P1 to P11 are those of docs/refusals.md.
+pub fn refusal_name(refusal: &Refusal) -> Option<&'static str>
+    ensures { option_map (λ name. name.now) result ≡ text_of_refusal refusal.now }
+{
+    match refusal {
+        Refusal::Json(JsonRefusal::NoMemory) => None,
+        Refusal::Json(JsonRefusal::NotUtf8 { .. }) => Some("BadProject P1"),
+        Refusal::Json(JsonRefusal::Syntax { .. }) => Some("BadProject P1"),
+        Refusal::Json(JsonRefusal::TooDeep { .. }) => Some("BadProject P1"),
+        Refusal::Shape { .. } => Some("BadProject P2"),
+        Refusal::StageCount { .. } => Some("BadProject P3"),
+        Refusal::TooMany { .. } => Some("BadProject P4"),
+        Refusal::Mutation(_, MutationRefusal::NoMemory) => None,
+        Refusal::Mutation(_, MutationRefusal::Missing) => Some("BadProject P11"),
+        Refusal::Mutation(_, MutationRefusal::BadText) => Some("BadProject P11"),
+        Refusal::Mutation(_, MutationRefusal::LengthsDiffer) => Some("BadProject P11"),
+        Refusal::Dangling { .. } => Some("BadProject P6"),
+        Refusal::Cyclic { .. } => Some("BadProject P7"),
+        Refusal::Opcode { .. } => Some("BadProject P5"),
+        Refusal::MissingInput { .. } => Some("BadProject P8"),
+        Refusal::Field { .. } => Some("BadProject P9"),
+        Refusal::TooDeep { .. } => Some("BadProject P10"),
+        Refusal::NoMemory => None,
+    }
 }
 
 /// What tells a status: its name, after a refused project with the number of the refusal, and after a refused line with
@@ -57,19 +74,10 @@ pub fn told(status: &Status) -> (&'static str, Option<u64>)
         Status::Usage => ("Usage", None),
         Status::ReadFault => ("ReadFault", None),
         Status::WriteFault => ("WriteFault", None),
-        Status::BadProject(
-            Refusal::Json(
-                JsonRefusal::NotUtf8 { .. }
-                | JsonRefusal::Syntax { .. }
-                | JsonRefusal::TooDeep { .. },
-            ),
-        ) => ("BadProject P1", None),
-        Status::BadProject(Refusal::Shape { .. }) => ("BadProject P2", None),
+        Status::BadProject(refusal) => (refusal_name(refusal).unwrap_or("NoMemory"), None),
         Status::BadScript(LineRefusal::UnknownLine { line }) => ("BadScript 2 ", Some(*line)),
         Status::TooLarge { .. } => ("TooLarge", None),
-        Status::NoMemory | Status::BadProject(Refusal::Json(JsonRefusal::NoMemory)) => {
-            ("NoMemory", None)
-        }
+        Status::NoMemory => ("NoMemory", None),
     }
 }
 
@@ -99,16 +107,12 @@ pub fn exit_number(status: &Status) -> u8
         Status::Usage => 1,
         Status::ReadFault => 2,
         Status::WriteFault => 3,
-        Status::BadProject(
-            Refusal::Json(
-                JsonRefusal::NotUtf8 { .. }
-                | JsonRefusal::Syntax { .. }
-                | JsonRefusal::TooDeep { .. },
-            )
-            | Refusal::Shape { .. },
-        ) => 4,
+        Status::BadProject(refusal) => match refusal_name(refusal) {
+            Some(_) => 4,
+            None => 9,
+        },
         Status::BadScript(_) => 5,
         Status::TooLarge { .. } => 8,
-        Status::NoMemory | Status::BadProject(Refusal::Json(JsonRefusal::NoMemory)) => 9,
+        Status::NoMemory => 9,
     }
 }

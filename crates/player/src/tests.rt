@@ -1,8 +1,11 @@
-use crate::script::LineRefusal;
-use crate::status::{Refusal, Status, Which, exit_number, status_text};
+//! Worked rows of `play`. Each row goes through one function, so that a test is a table.
+
+use crate::status::{Status, exit_number, status_text};
 use crate::top::play;
+use project_file::Refusal;
 use project_json::JsonRefusal;
 use std::alloc::{AllocError, Global};
+use std::process::Abort;
 use std::test::Fail;
 use sv_channels::{MemoryShelf, MemorySink, NamedBytes, Numbers, Pairs, SteadySink};
 
@@ -27,17 +30,31 @@ const SET_TO_ONE: &str =
 const SET_TO_TWO: &str =
     "{\"a1\":{\"opcode\":\"event_whenflagclicked\",\"next\":\"a2\",\"topLevel\":true},\"a2\":{\"opcode\":\"data_setvariableto\",\"inputs\":{\"VALUE\":[1,[4,\"2\"]]},\"fields\":{\"VARIABLE\":[\"n\",\"v\"]}}}";
 
+const FORWARD: &str =
+    "{\"a1\":{\"opcode\":\"event_whenflagclicked\",\"next\":\"a2\",\"topLevel\":true},\"a2\":{\"opcode\":\"control_forever\"}}";
+
+const TOUCHING: &str =
+    "{\"a1\":{\"opcode\":\"event_whenflagclicked\",\"next\":\"a2\",\"topLevel\":true},\"a2\":{\"opcode\":\"control_if\",\"inputs\":{\"CONDITION\":[2,\"a3\"]}},\"a3\":{\"opcode\":\"sensing_touchingobject\"}}";
+
+const OWN_NEXT: &str =
+    "{\"a1\":{\"opcode\":\"event_whenflagclicked\",\"next\":\"a2\",\"topLevel\":true},\"a2\":{\"opcode\":\"looks_hide\",\"next\":\"a2\"}}";
+
 // The base file with these blocks of the stage and of Cat.
 fn project(alloc: Global, stage: &str, cat: &str) -> Result<String, AllocError> {
     format!(in alloc; "{BEFORE_STAGE}{stage}{BEFORE_CAT}{cat}{AFTER_CAT}")
 }
 
-// A shelf with a project `p` and a script `s`.
-fn shelf(alloc: Global, project: &[u8], script: &str) -> Result<MemoryShelf, AllocError> {
+// A shelf with a project `p` and a script `s`, where these calls fail.
+fn shelf(
+    alloc: Global,
+    project: &[u8],
+    script: &[u8],
+    failing: Numbers,
+) -> Result<MemoryShelf, AllocError> {
     let mut files = NamedBytes::new(alloc);
     files.push("p", project)?;
-    files.push("s", script.as_bytes())?;
-    Ok(MemoryShelf::new(alloc, files, Numbers::new(alloc)))
+    files.push("s", script)?;
+    Ok(MemoryShelf::new(alloc, files, failing))
 }
 
 // A line of words, with a single space between each two.
@@ -49,17 +66,59 @@ fn words_of(alloc: Global, line: &str) -> Result<Vec<String>, AllocError> {
     Ok(words)
 }
 
-fn words(alloc: Global, script: &str) -> Result<Vec<String>, AllocError> {
-    words_of(alloc, format!(in alloc; "play p {script} 1 -")?.as_str())
+// What a call answers and writes: the status's text, its number, and the bytes.
+#[derive(Drop)]
+struct Answer {
+    text: String,
+    number: u8,
+    written: Vec<u8>,
 }
 
-// What `play` answers for the project and the script, and what it writes.
-fn played(alloc: Global, project: &[u8], script: &str) -> Result<(Status, SteadySink), AllocError> {
-    let mut shelf = shelf(alloc, project, script)?;
-    let mut out = SteadySink::new(alloc);
-    let status = play(alloc, &words(alloc, "s")?, &mut shelf, &mut out);
-    Ok((status, out))
+fn told(alloc: Global, status: &Status, written: &[u8]) -> Result<Answer, AllocError> {
+    Ok(Answer {
+        text: status_text(alloc, status)?,
+        number: exit_number(status),
+        written: written.to_vec(alloc)?,
+    })
 }
+
+fn answer(alloc: Global, words: &str, project: &[u8], script: &[u8]) -> Result<Answer, AllocError> {
+    let mut shelf = shelf(alloc, project, script, Numbers::new(alloc))?;
+    let mut out = SteadySink::new(alloc);
+    let status = play(alloc, &words_of(alloc, words)?, &mut shelf, &mut out);
+    told(alloc, &status, out.written())
+}
+
+// The same where one call of the shelf fails.
+fn unfetched(alloc: Global, words: &str, failing: u64) -> Result<Answer, AllocError> {
+    let mut calls = Numbers::new(alloc);
+    calls.push(failing)?;
+    let base = project(alloc, "{}", "{}")?;
+    let mut shelf = shelf(alloc, base.as_bytes(), TWO_FRAMES, calls)?;
+    let mut out = SteadySink::new(alloc);
+    let status = play(alloc, &words_of(alloc, words)?, &mut shelf, &mut out);
+    told(alloc, &status, out.written())
+}
+
+// The same where one write fails after some bytes.
+fn unwritten(alloc: Global, words: &str, failing: u64, kept: u64) -> Result<Answer, AllocError> {
+    let base = project(alloc, "{}", "{}")?;
+    let mut shelf = shelf(alloc, base.as_bytes(), TWO_FRAMES, Numbers::new(alloc))?;
+    let mut fails = Pairs::new(alloc);
+    fails.push((failing, kept))?;
+    let mut out = MemorySink::new(alloc, fails);
+    let status = play(alloc, &words_of(alloc, words)?, &mut shelf, &mut out);
+    told(alloc, &status, out.written())
+}
+
+// The answer has this text and number, and so much was written.
+fn is_told(rt: &impl Abort, answer: &Answer, text: &str, number: u8, written: &[u8]) {
+    assert_eq!(rt; answer.text.as_str(), text);
+    assert_eq!(rt; answer.number, number);
+    assert_eq!(rt; answer.written.as_slice(), written);
+}
+
+const TWO_FRAMES: &[u8] = b"frame 0 1 0\nflag\nframe 0 1 0\n";
 
 // A frame of the base file, with this value of n.
 fn frame_at(alloc: Global, number: u32, clock: u32, value: &str) -> Result<String, AllocError> {
@@ -68,124 +127,113 @@ fn frame_at(alloc: Global, number: u32, clock: u32, value: &str) -> Result<Strin
     )
 }
 
-fn frame(alloc: Global, value: &str) -> Result<String, AllocError> {
-    frame_at(alloc, 1, 0, value)
-}
-
-#[test]
-fn the_opening_frame(rt: HostRuntime) -> Result<(), Fail> {
-    let alloc = rt.alloc();
-    let base = project(alloc, "{}", "{}")?;
-    let (status, out) = played(alloc, base.as_bytes(), "flag\nframe 0 30 1000\n")?;
-    assert!(rt; matches!(status, Status::Done));
-    assert_eq!(rt; out.written(), frame(alloc, "0")?.as_bytes());
+// One frame after a click on the flag.
+fn plays_to(
+    rt: &impl Abort,
+    alloc: Global,
+    stage: &str,
+    cat: &str,
+    value: &str,
+) -> Result<(), Fail> {
+    let base = project(alloc, stage, cat)?;
+    let answer = answer(alloc, "play p s 1 -", base.as_bytes(), b"flag\nframe 0 1 0\n")?;
+    is_told(rt, &answer, "Done", 0, frame_at(alloc, 1, 0, value)?.as_bytes());
     Ok(())
 }
 
 #[test]
-fn set_and_change(rt: HostRuntime) -> Result<(), Fail> {
-    let alloc = rt.alloc();
-    let base = project(alloc, "{}", SET_AND_CHANGE)?;
-    let (status, out) = played(alloc, base.as_bytes(), "flag\nframe 0 1 0\n")?;
-    assert!(rt; matches!(status, Status::Done));
-    assert_eq!(rt; out.written(), frame(alloc, "7")?.as_bytes());
-    Ok(())
-}
-
-#[test]
-fn the_stage_starts_last(rt: HostRuntime) -> Result<(), Fail> {
-    let alloc = rt.alloc();
-    let base = project(alloc, SET_TO_TWO, SET_TO_ONE)?;
-    let (status, out) = played(alloc, base.as_bytes(), "flag\nframe 0 1 0\n")?;
-    assert!(rt; matches!(status, Status::Done));
-    assert_eq!(rt; out.written(), frame(alloc, "2")?.as_bytes());
+fn one_frame(rt: HostRuntime) -> Result<(), Fail> {
+    let rows = [
+        ("{}", "{}", "0"),
+        ("{}", SET_AND_CHANGE, "7"),
+        // The stage starts last.
+        (SET_TO_TWO, SET_TO_ONE, "2"),
+    ];
+    for (stage, cat, value) in rows {
+        plays_to(&rt, rt.alloc(), stage, cat, value)?;
+    }
     Ok(())
 }
 
 #[test]
 fn an_empty_script_and_an_unknown_line(rt: HostRuntime) -> Result<(), Fail> {
-    let alloc = rt.alloc();
-    let base = project(alloc, "{}", "{}")?;
-    let (status, out) = played(alloc, base.as_bytes(), "")?;
-    assert!(rt; matches!(status, Status::Done));
-    assert_eq!(rt; out.written().len(), 0);
-    let (status, out) = played(alloc, base.as_bytes(), "stop\n")?;
-    assert!(rt;
-        matches!(
-            status,
-            Status::BadScript(LineRefusal::UnknownLine { line: 1 })
-        )
-    );
-    assert_eq!(rt; out.written().len(), 0);
+    let base = project(rt.alloc(), "{}", "{}")?;
+    let rows: [(&[u8], &str, u8); 2] = [(b"", "Done", 0), (b"stop\n", "BadScript 2 1", 5)];
+    for (script, text, number) in rows {
+        let answer = answer(rt.alloc(), "play p s 1 -", base.as_bytes(), script)?;
+        is_told(&rt, &answer, text, number, b"");
+    }
     Ok(())
 }
 
 #[test]
 fn a_write_that_fails(rt: HostRuntime) -> Result<(), Fail> {
-    let alloc = rt.alloc();
-    let base = project(alloc, "{}", "{}")?;
-    let mut shelf = shelf(alloc, base.as_bytes(), "frame 0 1 0\nframe 0 1 0\n")?;
-    let mut fails = Pairs::new(alloc);
-    fails.push((1, 5))?;
-    let mut out = MemorySink::new(alloc, fails);
-    let status = play(alloc, &words(alloc, "s")?, &mut shelf, &mut out);
-    assert!(rt; matches!(status, Status::WriteFault));
-    let expected = format!(in alloc; "{}frame", frame(alloc, "0")?)?;
-    assert_eq!(rt; out.written(), expected.as_bytes());
+    let frame = frame_at(rt.alloc(), 1, 0, "0")?;
+    let cut = format!(in rt.alloc(); "{}frame", frame.as_str())?;
+    let rows: [(&str, u64, u64, &[u8]); 4] = [
+        ("play p s 1 -", 0, 0, b""),
+        ("play p s 1 -", 1, 5, cut.as_bytes()),
+        ("check p", 0, 0, b""),
+        ("check p", 0, 8, b"accepted"),
+    ];
+    for (words, failing, kept, written) in rows {
+        let answer = unwritten(rt.alloc(), words, failing, kept)?;
+        is_told(&rt, &answer, "WriteFault", 3, written);
+    }
     Ok(())
 }
 
 #[test]
 fn files_that_are_not_fetched(rt: HostRuntime) -> Result<(), Fail> {
-    let alloc = rt.alloc();
-    let base = project(alloc, "{}", "{}")?;
-    let mut small = shelf(alloc, base.as_bytes(), "")?;
-    let mut out = SteadySink::new(alloc);
-    let status = play(alloc, &words(alloc, "missing")?, &mut small, &mut out);
-    assert!(rt; matches!(status, Status::ReadFault));
-    let large = vec![in alloc; b' '; 33_554_433]?;
-    let (status, out) = played(alloc, &large, "")?;
-    assert!(rt;
-        matches!(
-            status,
-            Status::TooLarge {
-                which: Which::Project,
-                limit: 33_554_432
-            }
-        )
-    );
-    assert_eq!(rt; out.written().len(), 0);
+    let rows = [
+        ("play p s 1 -", 0),
+        ("play p s 1 -", 1),
+        ("play p missing 1 -", 9),
+        ("check p", 0),
+        ("check missing", 9),
+    ];
+    for (words, failing) in rows {
+        let answer = unfetched(rt.alloc(), words, failing)?;
+        is_told(&rt, &answer, "ReadFault", 2, b"");
+    }
     Ok(())
 }
 
-// How a project is refused, where its bytes are no JSON text.
-fn json_refusal(status: &Status) -> Option<JsonRefusal> {
-    match status {
-        Status::BadProject(Refusal::Json(refusal)) => Some(*refusal),
-        _ => None,
+#[test]
+fn a_project_above_its_limit(rt: HostRuntime) -> Result<(), Fail> {
+    let large = vec![in rt.alloc(); b' '; 33_554_433]?;
+    for words in ["play p s 1 -", "check p"] {
+        let answer = answer(rt.alloc(), words, &large, b"")?;
+        is_told(&rt, &answer, "TooLarge", 8, b"");
+    }
+    Ok(())
+}
+
+// The fault of a project whose bytes are no JSON text.
+fn json_fault(alloc: Global, words: &str, bytes: &[u8]) -> Result<Option<JsonRefusal>, AllocError> {
+    let mut shelf = shelf(alloc, bytes, b"", Numbers::new(alloc))?;
+    let mut out = SteadySink::new(alloc);
+    match play(alloc, &words_of(alloc, words)?, &mut shelf, &mut out) {
+        Status::BadProject(Refusal::Json(fault)) => Ok(Some(fault)),
+        _ => Ok(None),
     }
 }
 
 #[test]
-fn projects_that_are_refused(rt: HostRuntime) -> Result<(), Fail> {
-    let alloc = rt.alloc();
-    let deep = vec![in alloc; b'['; 257]?;
-    let bytes: [&[u8]; 4] = [b"", b"[1,]", b"\"a\xFF\"", deep.as_slice()];
-    let refusals = [
-        JsonRefusal::Syntax { at: 0 },
-        JsonRefusal::Syntax { at: 3 },
-        JsonRefusal::NotUtf8 { at: 2 },
-        JsonRefusal::TooDeep { at: 256 },
+fn texts_that_are_no_json(rt: HostRuntime) -> Result<(), Fail> {
+    let deep = vec![in rt.alloc(); b'['; 257]?;
+    let rows: [(&[u8], JsonRefusal); 4] = [
+        (b"", JsonRefusal::Syntax { at: 0 }),
+        (b"[1,]", JsonRefusal::Syntax { at: 3 }),
+        (b"\"a\xFF\"", JsonRefusal::NotUtf8 { at: 2 }),
+        (deep.as_slice(), JsonRefusal::TooDeep { at: 256 }),
     ];
-    for i in 0..4 {
-        let (status, out) = played(alloc, bytes[i], "")?;
-        assert_eq!(rt; json_refusal(&status), Some(refusals[i]));
-        assert_eq!(rt; status_text(alloc, &status)?.as_str(), "BadProject P1");
-        assert_eq!(rt; exit_number(&status), 4);
-        assert_eq!(rt; out.written().len(), 0);
+    for (bytes, fault) in rows {
+        assert_eq!(rt; json_fault(rt.alloc(), "play p s 1 -", bytes)?, Some(fault));
+        assert_eq!(rt; json_fault(rt.alloc(), "check p", bytes)?, Some(fault));
+        let answer = answer(rt.alloc(), "check p", bytes, b"")?;
+        is_told(&rt, &answer, "BadProject P1", 4, b"");
     }
-    let (status, _) = played(alloc, b"{}", "")?;
-    assert!(rt; matches!(status, Status::BadProject(Refusal::Shape { .. })));
     Ok(())
 }
 
@@ -198,120 +246,137 @@ fn changed(alloc: Global, old: &str, new: &str) -> Result<String, AllocError> {
     }
 }
 
+static CHANGES: [(&str, &str); 17] = [
+    // Shapes, and one stage.
+    ("\"volume\":100", "\"volume\":\"100\""),
+    ("{\"isStage\":false", "{\"isStage\":true"),
+    // Numbers in their ranges.
+    ("\"x\":0", "\"x\":12345"),
+    ("\"size\":100", "\"size\":-1"),
+    ("\"direction\":90", "\"direction\":181"),
+    ("\"currentCostume\":0", "\"currentCostume\":1"),
+    // Values of variables; no variable of a sprite, and empty lists.
+    ("[\"n\",0]", "[\"n\",1.5]"),
+    ("[\"n\",0]", "[\"n\",\"hello\"]"),
+    (
+        "\"Cat\",\"variables\":{}",
+        "\"Cat\",\"variables\":{\"w\":[\"m\",0]}",
+    ),
+    ("[\"l\",[]]", "[\"l\",[1]]"),
+    // Monitors of variables of the stage.
+    (
+        "\"opcode\":\"data_variable\"",
+        "\"opcode\":\"sensing_timer\"",
+    ),
+    ("\"spriteName\":null", "\"spriteName\":\"Cat\""),
+    // Blocks that are known.
+    ("data_changevariableby", "control_wait"),
+    // Links to later blocks.
+    ("\"next\":null", "\"next\":\"a2\""),
+    ("\"next\":\"a2\"", "\"next\":\"a9\""),
+    // Values and variables of blocks.
+    ("[1,[4,\"5\"]]", "[3,[12,\"n\",\"v\"]]"),
+    ("[\"n\",\"v\"]", "[\"n\",\"w\"]"),
+];
+
 #[test]
 fn each_rule_of_the_first_form_refuses(rt: HostRuntime) -> Result<(), Fail> {
-    let alloc = rt.alloc();
-    let changes = [
-        // Shapes, and one stage.
-        ("\"volume\":100", "\"volume\":\"100\""),
-        ("{\"isStage\":false", "{\"isStage\":true"),
-        // Numbers in their ranges.
-        ("\"x\":0", "\"x\":12345"),
-        ("\"size\":100", "\"size\":-1"),
-        ("\"direction\":90", "\"direction\":181"),
-        ("\"currentCostume\":0", "\"currentCostume\":1"),
-        // Values of variables; no variable of a sprite, and empty lists.
-        ("[\"n\",0]", "[\"n\",1.5]"),
-        ("[\"n\",0]", "[\"n\",\"hello\"]"),
-        (
-            "\"Cat\",\"variables\":{}",
-            "\"Cat\",\"variables\":{\"w\":[\"m\",0]}",
-        ),
-        ("[\"l\",[]]", "[\"l\",[1]]"),
-        // Monitors of variables of the stage.
-        (
-            "\"opcode\":\"data_variable\"",
-            "\"opcode\":\"sensing_timer\"",
-        ),
-        ("\"spriteName\":null", "\"spriteName\":\"Cat\""),
-        // Blocks that are known.
-        ("data_changevariableby", "control_wait"),
-        // Links to later blocks.
-        ("\"next\":null", "\"next\":\"a2\""),
-        ("\"next\":\"a2\"", "\"next\":\"a9\""),
-        // Values and variables of blocks.
-        ("[1,[4,\"5\"]]", "[3,[12,\"n\",\"v\"]]"),
-        ("[\"n\",\"v\"]", "[\"n\",\"w\"]"),
-    ];
-    for (old, new) in changes {
-        let text = changed(alloc, old, new)?;
-        let (status, out) = played(alloc, text.as_bytes(), "flag\nframe 0 1 0\n")?;
-        assert!(rt; matches!(status, Status::BadProject(Refusal::Shape { .. })));
-        assert_eq!(rt; status_text(alloc, &status)?.as_str(), "BadProject P2");
-        assert_eq!(rt; out.written().len(), 0);
+    for (old, new) in &CHANGES {
+        let text = changed(rt.alloc(), old, new)?;
+        let answer = answer(rt.alloc(), "play p s 1 -", text.as_bytes(), TWO_FRAMES)?;
+        is_told(&rt, &answer, "BadProject P2", 4, b"");
     }
-    let (status, _) = played(alloc, changed(alloc, "0]", "0]")?.as_bytes(), "")?;
-    assert!(rt; matches!(status, Status::Done));
     Ok(())
 }
+
+#[test]
+fn projects_that_are_checked(rt: HostRuntime) -> Result<(), Fail> {
+    let rows = [
+        ("{}", "Done", 0, "accepted 2 0\n"),
+        (SET_AND_CHANGE, "Done", 0, "accepted 2 3\n"),
+        (FORWARD, "Done", 0, "accepted 2 2\n"),
+        (TOUCHING, "BadProject P5", 4, ""),
+        (OWN_NEXT, "BadProject P7", 4, ""),
+    ];
+    for (blocks, text, number, written) in rows {
+        let base = project(rt.alloc(), "{}", blocks)?;
+        let answer = answer(rt.alloc(), "check p", base.as_bytes(), b"")?;
+        is_told(&rt, &answer, text, number, written.as_bytes());
+    }
+    Ok(())
+}
+
+static LINES: [&str; 21] = [
+    "stop",
+    "Flag",
+    "flag ",
+    " flag",
+    "flag now",
+    "frame",
+    "frame 9 1",
+    "frame 9 1 0 0",
+    "frame  9 1 0",
+    "frame 9 1 0 ",
+    "frame 09 1 0",
+    "frame +9 1 0",
+    "frame -9 1 0",
+    "frame 9.0 1 0",
+    "frame 9000000000001 1 0",
+    "frame 9 0 0",
+    "frame 9 10001 0",
+    "frame 9 1 1000001",
+    "frame 99999999999999999999 1 0",
+    "frame 8 1 0",
+    "frame 9 1 0\r",
+];
 
 #[test]
 fn lines_that_are_refused(rt: HostRuntime) -> Result<(), Fail> {
-    let alloc = rt.alloc();
-    let base = project(alloc, "{}", "{}")?;
-    let lines = [
-        "stop",
-        "Flag",
-        "flag ",
-        " flag",
-        "flag now",
-        "frame",
-        "frame 9 1",
-        "frame 9 1 0 0",
-        "frame  9 1 0",
-        "frame 9 1 0 ",
-        "frame 09 1 0",
-        "frame +9 1 0",
-        "frame -9 1 0",
-        "frame 9.0 1 0",
-        "frame 9000000000001 1 0",
-        "frame 9 0 0",
-        "frame 9 10001 0",
-        "frame 9 1 1000001",
-        "frame 99999999999999999999 1 0",
-        "frame 8 1 0",
-        "frame 9 1 0\r",
-    ];
-    for line in lines {
-        let script = format!(in alloc; "# one\nframe 9 10000 1000000\n\n{line}\nflag\n")?;
-        let (status, out) = played(alloc, base.as_bytes(), script.as_str())?;
-        assert_eq!(rt; status_text(alloc, &status)?.as_str(), "BadScript 2 4");
-        assert_eq!(rt; out.written(), frame_at(alloc, 1, 9, "0")?.as_bytes());
+    let base = project(rt.alloc(), "{}", "{}")?;
+    let frame = frame_at(rt.alloc(), 1, 9, "0")?;
+    for line in &LINES {
+        let script = format!(in rt.alloc(); "# one\nframe 9 10000 1000000\n\n{line}\nflag\n")?;
+        let answer = answer(rt.alloc(), "play p s 1 -", base.as_bytes(), script.as_bytes())?;
+        is_told(&rt, &answer, "BadScript 2 4", 5, frame.as_bytes());
+    }
+    Ok(())
+}
+
+static NO_FORMS: [&str; 17] = [
+    "",
+    "play",
+    "play p s 1",
+    "play p s 1 - -",
+    "Play p s 1 -",
+    "resume p s 1 -",
+    "play p s 1 save",
+    "play p s 01 -",
+    "play p s -1 -",
+    "play p s +1 -",
+    "play p s 1.0 -",
+    "play p s  -",
+    "play p s 18446744073709551616 -",
+    "check",
+    "check p -",
+    "Check p",
+    "check p s",
+];
+
+#[test]
+fn words_that_are_no_form(rt: HostRuntime) -> Result<(), Fail> {
+    let base = project(rt.alloc(), "{}", "{}")?;
+    for words in &NO_FORMS {
+        let answer = answer(rt.alloc(), words, base.as_bytes(), TWO_FRAMES)?;
+        is_told(&rt, &answer, "Usage", 1, b"");
     }
     Ok(())
 }
 
 #[test]
-fn words_that_are_no_form(rt: HostRuntime) -> Result<(), Fail> {
-    let alloc = rt.alloc();
-    let base = project(alloc, "{}", "{}")?;
-    let lines = [
-        "",
-        "play",
-        "play p s 1",
-        "play p s 1 - -",
-        "Play p s 1 -",
-        "resume p s 1 -",
-        "play p s 1 save",
-        "play p s 01 -",
-        "play p s -1 -",
-        "play p s +1 -",
-        "play p s 1.0 -",
-        "play p s  -",
-        "play p s 18446744073709551616 -",
-        "check p",
-    ];
-    for line in lines {
-        let mut shelf = shelf(alloc, base.as_bytes(), "frame 0 1 0\n")?;
-        let mut out = SteadySink::new(alloc);
-        let status = play(alloc, &words_of(alloc, line)?, &mut shelf, &mut out);
-        assert!(rt; matches!(status, Status::Usage));
-        assert_eq!(rt; out.written().len(), 0);
-    }
-    let mut none = shelf(alloc, base.as_bytes(), "frame 0 1 0\n")?;
-    let largest = words_of(alloc, "play p s 18446744073709551615 -")?;
-    let status = play(alloc, &largest, &mut none, &mut SteadySink::new(alloc));
-    assert!(rt; matches!(status, Status::Done));
+fn the_largest_seed(rt: HostRuntime) -> Result<(), Fail> {
+    let base = project(rt.alloc(), "{}", "{}")?;
+    let answer = answer(rt.alloc(), "play p s 18446744073709551615 -", base.as_bytes(), b"")?;
+    is_told(&rt, &answer, "Done", 0, b"");
     Ok(())
 }
 
@@ -321,85 +386,29 @@ fn a_name_keeps_the_blanks_at_its_ends(rt: HostRuntime) -> Result<(), Fail> {
     let base = project(alloc, "{}", "{}")?;
     let mut files = NamedBytes::new(alloc);
     files.push(" p ", base.as_bytes())?;
-    files.push("s", b"frame 0 1 0\n")?;
     let mut shelf = MemoryShelf::new(alloc, files, Numbers::new(alloc));
-    let status = play(
-        alloc,
-        &words(alloc, "s")?,
-        &mut shelf,
-        &mut SteadySink::new(alloc),
-    );
-    assert!(rt; matches!(status, Status::ReadFault));
+    let mut out = SteadySink::new(alloc);
+    let status = play(alloc, &words_of(alloc, "check p")?, &mut shelf, &mut out);
+    assert_eq!(rt; exit_number(&status), 2);
     let mut blanks = Vec::new(alloc);
-    for word in ["play", " p ", "s", "1", "-"] {
+    for word in ["check", " p "] {
         blanks.push(String::from_str(alloc, word)?)?;
     }
-    let status = play(alloc, &blanks, &mut shelf, &mut SteadySink::new(alloc));
-    assert!(rt; matches!(status, Status::Done));
+    let status = play(alloc, &blanks, &mut shelf, &mut out);
+    assert_eq!(rt; exit_number(&status), 0);
     Ok(())
 }
 
 #[test]
 fn a_thousand_frames_and_flags(rt: HostRuntime) -> Result<(), Fail> {
-    let alloc = rt.alloc();
-    let base = project(alloc, "{}", SET_AND_CHANGE)?;
-    let mut script = String::new(alloc);
-    let mut expected = String::new(alloc);
+    let base = project(rt.alloc(), "{}", SET_AND_CHANGE)?;
+    let mut script = String::new(rt.alloc());
+    let mut expected = String::new(rt.alloc());
     for number in 1..1001u32 {
-        script.push_str(format!(in alloc; "flag\nframe {number} 1 0\n")?.as_str())?;
-        expected.push_str(frame_at(alloc, number, number, "7")?.as_str())?;
+        script.push_str(format!(in rt.alloc(); "flag\nframe {number} 1 0\n")?.as_str())?;
+        expected.push_str(frame_at(rt.alloc(), number, number, "7")?.as_str())?;
     }
-    let (status, out) = played(alloc, base.as_bytes(), script.as_str())?;
-    assert!(rt; matches!(status, Status::Done));
-    assert_eq!(rt; out.written(), expected.as_bytes());
-    Ok(())
-}
-
-#[test]
-fn each_file_is_fetched_once_and_each_frame_is_one_write(rt: HostRuntime) -> Result<(), Fail> {
-    let alloc = rt.alloc();
-    let base = project(alloc, "{}", "{}")?;
-    for failing in 0..3u64 {
-        let mut files = NamedBytes::new(alloc);
-        files.push("p", base.as_bytes())?;
-        files.push("s", b"frame 0 1 0\nflag\nframe 0 1 0\n")?;
-        let mut calls = Numbers::new(alloc);
-        calls.push(failing)?;
-        let mut shelf = MemoryShelf::new(alloc, files, calls);
-        let status = play(
-            alloc,
-            &words(alloc, "s")?,
-            &mut shelf,
-            &mut SteadySink::new(alloc),
-        );
-        assert_eq!(rt; matches!(status, Status::ReadFault), failing < 2);
-        let mut shelf = self::shelf(alloc, base.as_bytes(), "frame 0 1 0\nflag\nframe 0 1 0\n")?;
-        let mut writes = Pairs::new(alloc);
-        writes.push((failing, 0))?;
-        let mut out = MemorySink::new(alloc, writes);
-        let status = play(alloc, &words(alloc, "s")?, &mut shelf, &mut out);
-        assert_eq!(rt; matches!(status, Status::WriteFault), failing < 2);
-    }
-    Ok(())
-}
-
-#[test]
-fn texts_and_numbers_of_statuses(rt: HostRuntime) -> Result<(), Fail> {
-    let alloc = rt.alloc();
-    let line = Status::BadScript(LineRefusal::UnknownLine { line: 12 });
-    assert_eq!(rt; status_text(alloc, &line)?.as_str(), "BadScript 2 12");
-    assert_eq!(rt; exit_number(&line), 5);
-    assert_eq!(rt;
-        status_text(alloc, &Status::WriteFault)?.as_str(),
-        "WriteFault"
-    );
-    assert_eq!(rt; exit_number(&Status::WriteFault), 3);
-    assert_eq!(rt;
-        status_text(alloc, &Status::ReadFault)?.as_str(),
-        "ReadFault"
-    );
-    assert_eq!(rt; exit_number(&Status::ReadFault), 2);
-    assert_eq!(rt; status_text(alloc, &Status::Usage)?.as_str(), "Usage");
-    assert_eq!(rt; exit_number(&Status::Usage), 1);
+    let answer = answer(rt.alloc(), "play p s 1 -", base.as_bytes(), script.as_bytes())?;
+    is_told(&rt, &answer, "Done", 0, expected.as_bytes());
     Ok(())
 }

@@ -1,27 +1,28 @@
 //! The top call.
 
-ghost use Rattle.std.specs.Prelude.{◌≡◌, ◌≢◌, ◌⊎◌, ◌↔◌, ℕ, ◌+◌, ◌^◌, ◌<◌, ◌≤◌, [], length, map, string_bytes, Some, None, OnOk, IfSome, List, Err};
-ghost use Rattle.std.specs.FinMap.{get};
+ghost use Rattle.std.specs.Prelude.{◌≡◌, ◌≢◌, ◌⊎◌, ◌↔◌, ◌+◌, ◌^◌, ◌<◌, ◌≤◌, length, map, string_bytes, None, OnOk};
 ghost use Rattle.sv_channels.specs.Counts.{next_count, Rose, NoneFell};
-ghost use Rattle.project_json.specs.Refusal.{IsCause};
 ghost use Rattle.sequencer.specs.Frame.{first_world};
 ghost use Rattle.sequencer.specs.FirstRun.{world_of, IsRunOf};
-ghost use Rattle.player.specs.Limits.{script_limit, nesting_limit};
-ghost use Rattle.player.specs.Command.{Form as FormOf, play as play_of, command_of};
+ghost use Rattle.player.specs.Limits.{script_limit};
+ghost use Rattle.player.specs.Command.{play as play_of, check as check_of, command_of};
 ghost use Rattle.player.specs.Lines.{lines_of};
-ghost use Rattle.player.specs.Output.{played, world_after, frames_after};
-ghost use Rattle.player.specs.Promise.{FetchFailed, FaultCause, AnswerCause, HidesNothing, Tells, Wrote, IsSilent, Fetches, Writes, Promised, Loading, LoadsFile, outcome_of};
+ghost use Rattle.player.specs.Output.{whole, played, world_after, frames_after};
+ghost use Rattle.player.specs.Promise.{FetchFailed, FaultCause, AnswerCause, HidesNothing, Tells, Wrote, IsSilent, Fetches, FetchesFor, Writes, Promised, Asked, project_name, Loads, Checks, told_counts};
 ghost use Rattle.player.specs.GoodLine.{IsGood};
 ghost use Rattle.player.specs.Script.{clock_after};
-ghost use Rattle.player.specs.Stages.{Fetched, FetchedSteadily, Loaded, LineWrote, LineWrites, LineSteadily, PlayedTo, PlayedSteadily};
+ghost use Rattle.player.specs.Stages.{Fetched, FetchedSteadily, Loaded, RefusedAs, LineWrote, LineWrites, LineSteadily, PlayedTo, PlayedSteadily};
 
 use crate::command::{Command, command_of};
+use crate::counts::{Counts, accepted_line};
 use crate::frame_text::frame_text;
 use crate::lines::Line;
 use crate::script::Script;
-use crate::status::{Refusal, Status, Which};
+use crate::status::{Status, Which, refusal_name};
 use first_projects::{FirstProject, FirstRefusal, first_form};
-use project_json::{JsonRefusal, Text, read};
+use project_check::load;
+use project_file::Refusal;
+use project_json::{Text, read};
 use sequencer::{Budget, FirstRun};
 use std::alloc::Global;
 use sv_channels::{FetchError, Shelf, Sink, SinkError};
@@ -52,26 +53,24 @@ fn fetch<H: Shelf>(
     }
 }
 
-// How a call ends where the bytes of a project are refused.
-fn unread(refusal: JsonRefusal) -> Status
-    ensures { (bytes : List ℕ) → IsCause nesting_limit bytes refusal → Loaded bytes (Err result) }
+// How a call ends where a project is refused.
+fn refused(refusal: Refusal) -> Status
+    ensures { RefusedAs refusal result }
 {
-    match refusal {
-        JsonRefusal::NoMemory => Status::NoMemory,
-        JsonRefusal::NotUtf8 { .. } | JsonRefusal::Syntax { .. } | JsonRefusal::TooDeep { .. } => {
-            Status::BadProject(Refusal::Json(refusal))
-        }
+    match refusal_name(&refusal) {
+        Some(_) => Status::BadProject(refusal),
+        None => Status::NoMemory,
     }
 }
 
-// The project that the bytes of a file tell.
-fn load(alloc: Global, bytes: &[u8]) -> Result<FirstProject, Status>
+// The project of the first form that the bytes of a file tell.
+fn load_first(alloc: Global, bytes: &[u8]) -> Result<FirstProject, Status>
     requires { length bytes.now < 2 ^ 32 }
-    ensures { Loaded bytes.now result }
+    ensures { Loaded (Loads bytes.now) (λ p. p) result }
 {
     let document = match read(alloc, bytes) {
         Ok(document) => document,
-        Err(refusal) => return Err(unread(refusal)),
+        Err(refusal) => return Err(refused(Refusal::Json(refusal))),
     };
     match first_form(alloc, &document) {
         Ok(project) => Ok(project),
@@ -79,6 +78,20 @@ fn load(alloc: Global, bytes: &[u8]) -> Result<FirstProject, Status>
             path: Text::new(alloc),
         })),
         Err(FirstRefusal::NoMemory) => Err(Status::NoMemory),
+    }
+}
+
+// What the project has that the bytes of a file tell.
+fn count(alloc: Global, bytes: &[u8]) -> Result<Counts, Status>
+    requires { length bytes.now < 2 ^ 32 }
+    ensures { Loaded (Checks bytes.now) (λ c. c) result }
+{
+    match load(alloc, bytes) {
+        Ok(project) => Ok(Counts {
+            targets: project.target_count(),
+            blocks: project.block_count(),
+        }),
+        Err(refusal) => Err(refused(refusal)),
     }
 }
 
@@ -181,21 +194,21 @@ fn run<H: Shelf, K: Sink>(
     shelf: &mut H,
     out: &mut K,
 ) -> Status
-    ensures fault { let form : FormOf = record { project = project.now; script = script.now } in FaultCause (FetchFailed (H.fetch_faults shelf.old) (H.fetch_faults shelf.new) form) (Rose (K.faults out.old) (K.faults out.new)) result }
-    ensures exact { let form : FormOf = record { project = project.now; script = script.now } in IfSome (H.held shelf.old) (λ files. (loading : Loading) → LoadsFile (get files form.project) loading → AnswerCause (Rose (H.fetch_faults shelf.old form.project) (H.fetch_faults shelf.new form.project)) (Rose (H.wants shelf.old) (H.wants shelf.new)) (outcome_of files form loading).ending result) }
-    ensures bytes { let form : FormOf = record { project = project.now; script = script.now } in IfSome (H.held shelf.old) (λ files. (loading : Loading) → LoadsFile (get files form.project) loading → Wrote (K.written out.old) (K.written out.new) (outcome_of files form loading).frames result) }
+    ensures fault { FaultCause (FetchFailed (H.fetch_faults shelf.old) (H.fetch_faults shelf.new) (play_of (record { project = project.now; script = script.now }))) (Rose (K.faults out.old) (K.faults out.new)) result }
+    ensures exact { Promised (H.held shelf.old) (play_of (record { project = project.now; script = script.now })) (λ o. AnswerCause (Rose (H.fetch_faults shelf.old project.now) (H.fetch_faults shelf.new project.now)) (Rose (H.wants shelf.old) (H.wants shelf.new)) o.ending result) }
+    ensures bytes { Promised (H.held shelf.old) (play_of (record { project = project.now; script = script.now })) (λ o. Wrote (K.written out.old) (K.written out.new) o.texts result) }
     ensures silent { IsSilent (K.written out.old) (K.written out.new) result }
     ensures held { H.held shelf.new ≡ H.held shelf.old }
     ensures no_usage { result ≢ Status.Usage }
     ensures honest { HidesNothing (H.fetch_faults shelf.old) (H.fetch_faults shelf.new) (K.faults out.old) (K.faults out.new) result }
-    ensures fetches { Fetches (H.calls shelf.old) (H.calls shelf.new) result }
-    ensures writes { let form : FormOf = record { project = project.now; script = script.now } in IfSome (H.held shelf.old) (λ files. (loading : Loading) → LoadsFile (get files form.project) loading → Writes (K.calls out.old) (K.calls out.new) (outcome_of files form loading).frames result) }
+    ensures fetches { Fetches (H.calls shelf.old) (H.calls shelf.new) 2 result }
+    ensures writes { Promised (H.held shelf.old) (play_of (record { project = project.now; script = script.now })) (λ o. Writes (K.calls out.old) (K.calls out.new) o.texts result) }
 {
     let project = match fetch(alloc, shelf, project, Which::Project, PROJECT_LIMIT) {
         Ok(bytes) => bytes,
         Err(status) => return status,
     };
-    let project = match load(alloc, &project) {
+    let project = match load_first(alloc, &project) {
         Ok(project) => project,
         Err(status) => return status,
     };
@@ -206,11 +219,54 @@ fn run<H: Shelf, K: Sink>(
     play_lines(alloc, &project, &script, out)
 }
 
-/// Plays a project: `play PROJECT SCRIPT SEED -`, the command's words without the program's name.
+// Writes the line of an accepted project.
+fn tell_counts<K: Sink>(alloc: Global, counts: Counts, out: &mut K) -> Status
+    ensures cause { PlayedTo whole (Rose (K.faults out.old) (K.faults out.new)) result }
+    ensures bytes { Wrote (K.written out.old) (K.written out.new) (told_counts counts).texts result }
+    ensures faults { K.faults out.old ≤ K.faults out.new }
+    ensures steady { PlayedSteadily (K.faults out.old) (K.faults out.new) result }
+    ensures writes { Writes (K.calls out.old) (K.calls out.new) (told_counts counts).texts result }
+{
+    let Ok(line) = accepted_line(alloc, counts) else {
+        return Status::NoMemory;
+    };
+    match out.write(alloc, &line) {
+        Ok(()) => Status::Done,
+        Err(SinkError::Failed) => Status::WriteFault,
+        Err(SinkError::NoMemory) => Status::NoMemory,
+    }
+}
+
+// Fetches the project, checks it, and writes what it has.
+fn check<H: Shelf, K: Sink>(alloc: Global, project: &str, shelf: &mut H, out: &mut K) -> Status
+    ensures fault { FaultCause (FetchFailed (H.fetch_faults shelf.old) (H.fetch_faults shelf.new) (check_of project.now)) (Rose (K.faults out.old) (K.faults out.new)) result }
+    ensures exact { Promised (H.held shelf.old) (check_of project.now) (λ o. AnswerCause (Rose (H.fetch_faults shelf.old project.now) (H.fetch_faults shelf.new project.now)) (Rose (H.wants shelf.old) (H.wants shelf.new)) o.ending result) }
+    ensures bytes { Promised (H.held shelf.old) (check_of project.now) (λ o. Wrote (K.written out.old) (K.written out.new) o.texts result) }
+    ensures silent { IsSilent (K.written out.old) (K.written out.new) result }
+    ensures held { H.held shelf.new ≡ H.held shelf.old }
+    ensures no_usage { result ≢ Status.Usage }
+    ensures honest { HidesNothing (H.fetch_faults shelf.old) (H.fetch_faults shelf.new) (K.faults out.old) (K.faults out.new) result }
+    ensures fetches { Fetches (H.calls shelf.old) (H.calls shelf.new) 1 result }
+    ensures writes { Promised (H.held shelf.old) (check_of project.now) (λ o. Writes (K.calls out.old) (K.calls out.new) o.texts result) }
+{
+    let bytes = match fetch(alloc, shelf, project, Which::Project, PROJECT_LIMIT) {
+        Ok(bytes) => bytes,
+        Err(status) => return status,
+    };
+    let counts = match count(alloc, &bytes) {
+        Ok(counts) => counts,
+        Err(status) => return status,
+    };
+    tell_counts(alloc, counts, out)
+}
+
+/// Plays a project, `play PROJECT SCRIPT SEED -`, or checks one, `check PROJECT`: the command's words without the
+/// program's name.
 ///
-/// The project and the script are fetched from the shelf, and each frame line of the script writes
-/// one frame text by one write. specs/Promise.antt says what the clauses mean. After a fault no
-/// further call is made on the shelf or the sink.
+/// To play, the project and the script are fetched from the shelf, and each frame line of the script writes one frame
+/// text by one write. To check, the project is fetched, and where it is accepted, the line `accepted T B` with its
+/// numbers of targets and blocks is written by one write. specs/Promise.antt says what the clauses mean. After a fault
+/// no further call is made on the shelf or the sink.
 pub fn play<H: Shelf, K: Sink>(
     alloc: Global,
     words: &[String],
@@ -221,32 +277,33 @@ pub fn play<H: Shelf, K: Sink>(
     ensures usage { (result ≡ Status.Usage) ↔ (command_of (map string_bytes words.now) ≡ None) }
 
     // A fault only where its count rose.
-    ensures cause { (form : FormOf) → command_of (map string_bytes words.now) ≡ Some (play_of form) → FaultCause (FetchFailed (H.fetch_faults shelf.old) (H.fetch_faults shelf.new) form) (Rose (K.faults out.old) (K.faults out.new)) result }
+    ensures cause { Asked (map string_bytes words.now) (λ command. FaultCause (FetchFailed (H.fetch_faults shelf.old) (H.fetch_faults shelf.new) command) (Rose (K.faults out.old) (K.faults out.new)) result) }
 
     // Every other status but want of memory exactly where the outcome ends so; a read fault and want of memory no later
     // in the order of work than they may come.
-    ensures exact { Promised (H.held shelf.old) (map string_bytes words.now) (λ form o.
-        AnswerCause (Rose (H.fetch_faults shelf.old form.project) (H.fetch_faults shelf.new form.project)) (Rose (H.wants shelf.old) (H.wants shelf.new)) o.ending result) }
+    ensures exact { Asked (map string_bytes words.now) (λ command. Promised (H.held shelf.old) command (λ o.
+        AnswerCause (Rose (H.fetch_faults shelf.old (project_name command)) (H.fetch_faults shelf.new (project_name command))) (Rose (H.wants shelf.old) (H.wants shelf.new)) o.ending result)) }
 
     // Where no count rose, the answer tells the outcome's ending, or memory ran out.
-    ensures complete { Promised (H.held shelf.old) (map string_bytes words.now) (λ form o.
-        ¬ FetchFailed (H.fetch_faults shelf.old) (H.fetch_faults shelf.new) form → ¬ Rose (K.faults out.old) (K.faults out.new)
-        → Tells result o.ending ⊎ (result ≡ Status.NoMemory)) }
+    ensures complete { Asked (map string_bytes words.now) (λ command. Promised (H.held shelf.old) command (λ o.
+        ¬ FetchFailed (H.fetch_faults shelf.old) (H.fetch_faults shelf.new) command → ¬ Rose (K.faults out.old) (K.faults out.new)
+        → Tells result o.ending ⊎ (result ≡ Status.NoMemory))) }
 
     // No failure is told as another status.
     ensures honest { HidesNothing (H.fetch_faults shelf.old) (H.fetch_faults shelf.new) (K.faults out.old) (K.faults out.new) result }
 
     // What was written, and by how many writes.
-    ensures bytes { Promised (H.held shelf.old) (map string_bytes words.now) (λ form o. Wrote (K.written out.old) (K.written out.new) o.frames result) }
-    ensures writes { Promised (H.held shelf.old) (map string_bytes words.now) (λ form o. Writes (K.calls out.old) (K.calls out.new) o.frames result) }
+    ensures bytes { Asked (map string_bytes words.now) (λ command. Promised (H.held shelf.old) command (λ o. Wrote (K.written out.old) (K.written out.new) o.texts result)) }
+    ensures writes { Asked (map string_bytes words.now) (λ command. Promised (H.held shelf.old) command (λ o. Writes (K.calls out.old) (K.calls out.new) o.texts result)) }
     ensures silent { IsSilent (K.written out.old) (K.written out.new) result }
 
     // The shelf holds what it held, and each file was fetched once at most.
     ensures held { H.held shelf.new ≡ H.held shelf.old }
-    ensures fetches { Fetches (H.calls shelf.old) (H.calls shelf.new) result }
+    ensures fetches { FetchesFor (H.calls shelf.old) (H.calls shelf.new) (command_of (map string_bytes words.now)) result }
 {
     match command_of(words) {
         None => Status::Usage,
         Some(Command::Play { project, script }) => run(alloc, project, script, shelf, out),
+        Some(Command::Check { project }) => check(alloc, project, shelf, out),
     }
 }

@@ -1,27 +1,27 @@
-use Rattle.std.proofs.Common.{◌≡◌, ◌≤◌, ℕ, sym, subst, ap, ◌∙◌, length, Some, Vec, Err}
+use Rattle.std.proofs.Common.{refl, ◌≡◌, ◌≤◌, ℕ, sym, subst, ap, ◌∙◌, length, Some, Vec, Err}
 use Rattle.std.specs.Prelude.{IfSome}
 use Rattle.std.specs.FinMap.{get}
 use Rattle.std.specs.declared.alloc.Global.{Global}
 use Rattle.sv_channels.specs.Counts.{next_count, Rose}
+use Rattle.first_projects.specs.FirstProject.{Project}
 use Rattle.player.specs.Limits.{project_limit, script_limit}
 use Rattle.player.specs.Command.{Form}
-use Rattle.player.specs.Promise.{Outcome, AnswerCause, Wrote, Writes}
+use Rattle.player.specs.Promise.{Outcome, Loads, AnswerCause, Wrote, Writes}
 use Rattle.player.specs.Stages.{Fetched}
 use Rattle.player.specs.declared.status.Which.TheVariants as which
-use Rattle.player.proofs.Calls.{always, at_load, at_script, at_end, refused, script_causes, unfetched_wrote, script_fetches, played_cause, played_fetches}
+use Rattle.player.proofs.Calls.{fetched_file, first_reading, after_load, always, at_load, at_accepted, at_end, loaded_fetched, refused_cause, script_causes, unfetched_wrote, script_fetches, played_cause, played_fetches}
 use Rattle.player.proofs.top.run.Goals as goal
 
 -- the project is refused
-pub returns-in-Err-load-clause-exact : goal.returns-in-Err-load-clause-exact
-returns-in-Err-load-clause-exact g c =
+pub returns-in-Err-load_first-clause-exact : goal.returns-in-Err-load_first-clause-exact
+returns-in-Err-load_first-clause-exact g c =
     let held = g.H.Shelf.held c.args.shelf.now in
     let form : Form = record { project = c.args.project.now; script = c.args.script.now } in
-    let small = subst (λ bs. length bs ≤ project_limit) (sym c.deref.ensures.value) c.in-Ok.ensures.answer.0 in
-    let is = subst (λ bs. IfSome held (λ files. get files form.project ≡ Some bs)) (sym c.deref.ensures.value) c.in-Ok.ensures.answer.1 in
+    let project = fetched_file held held form.project project_limit c.in-Ok.bytes.items c.deref.result.now refl c.deref.ensures.value c.in-Ok.ensures.answer in
     let failed = Rose (g.H.Shelf.fetch_faults c.args.shelf.now form.project) (g.H.Shelf.fetch_faults c.fetch.new.shelf form.project) in
     let wanted = Rose (g.H.Shelf.wants c.args.shelf.now) (g.H.Shelf.wants c.fetch.new.shelf) in
-    at_load (λ (o : Outcome). AnswerCause failed wanted o.ending c.in-Err-load.status) held form c.deref.result.now small is
-    (λ next k loading b. refused c.deref.result.now failed wanted c.in-Err-load.status next k c.in-Err-load.ensures loading b)
+    at_load Loads (after_load form) (λ (o : Outcome). AnswerCause failed wanted o.ending c.in-Err-load_first.status) held form.project c.deref.result.now project
+    (λ files loading b. refused_cause (Loads c.deref.result.now) (λ (p : Project). p) (first_reading c.deref.result.now) failed wanted c.in-Err-load_first.status (after_load form files) (loaded_fetched form files) c.in-Err-load_first.ensures loading b)
 
 -- the script is not fetched
 
@@ -29,15 +29,14 @@ pub returns-in-Err-fetch-clause-exact : goal.returns-in-Err-fetch-clause-exact
 returns-in-Err-fetch-clause-exact g c =
     let held = g.H.Shelf.held c.args.shelf.now in
     let form : Form = record { project = c.args.project.now; script = c.args.script.now } in
-    let small = subst (λ bs. length bs ≤ project_limit) (sym c.deref.ensures.value) c.in-Ok.ensures.answer.0 in
-    let is = subst (λ bs. IfSome held (λ files. get files form.project ≡ Some bs)) (sym c.deref.ensures.value) c.in-Ok.ensures.answer.1 in
+    let project = fetched_file held held form.project project_limit c.in-Ok.bytes.items c.deref.result.now refl c.deref.ensures.value c.in-Ok.ensures.answer in
     let failed = Rose (g.H.Shelf.fetch_faults c.args.shelf.now form.project) (g.H.Shelf.fetch_faults c.fetch-2.new.shelf form.project) in
     let wanted = Rose (g.H.Shelf.wants c.args.shelf.now) (g.H.Shelf.wants c.fetch-2.new.shelf) in
     let script_failed = Rose (g.H.Shelf.fetch_faults c.fetch.new.shelf form.script) (g.H.Shelf.fetch_faults c.fetch-2.new.shelf form.script) in
     let script_wanted = Rose (g.H.Shelf.wants c.fetch.new.shelf) (g.H.Shelf.wants c.fetch-2.new.shelf) in
     let answer = subst (λ h. Fetched h form.script which.Script script_limit script_failed script_wanted {A = Vec ℕ Global} (λ v. v.items) (Err c.in-Err-fetch.status)) c.in-Ok.ensures.held c.in-Err-fetch.ensures.answer in
-    at_script (λ (o : Outcome). AnswerCause failed wanted o.ending c.in-Err-fetch.status) held form c.deref.result.now c.in-Ok-load.project small is c.in-Ok-load.ensures
-    (script_causes (Vec ℕ Global) (λ v. v.items) held form c.in-Ok-load.project failed wanted script_failed script_wanted c.in-Err-fetch.status answer)
+    at_accepted Loads (after_load form) (λ (o : Outcome). AnswerCause failed wanted o.ending c.in-Err-fetch.status) held form.project c.deref.result.now c.in-Ok-load_first.project (first_reading c.deref.result.now) project c.in-Ok-load_first.ensures
+    (script_causes (Vec ℕ Global) (λ v. v.items) held form c.in-Ok-load_first.project failed wanted script_failed script_wanted c.in-Err-fetch.status answer)
 
 pub returns-in-Err-fetch-clause-bytes : goal.returns-in-Err-fetch-clause-bytes
 returns-in-Err-fetch-clause-bytes g c =
@@ -47,8 +46,8 @@ returns-in-Err-fetch-clause-bytes g c =
     let script_wanted = Rose (g.H.Shelf.wants c.fetch.new.shelf) (g.H.Shelf.wants c.fetch-2.new.shelf) in
     let answer = subst (λ h. Fetched h form.script which.Script script_limit script_failed script_wanted {A = Vec ℕ Global} (λ v. v.items) (Err c.in-Err-fetch.status)) c.in-Ok.ensures.held c.in-Err-fetch.ensures.answer in
     let written = g.K.Sink.written c.args.out.now in
-    always (λ (o : Outcome). Wrote written written o.frames c.in-Err-fetch.status) held form
-    (λ o. unfetched_wrote (Vec ℕ Global) (λ v. v.items) held form.script which.Script script_limit script_failed script_wanted c.in-Err-fetch.status written o.frames answer)
+    always Loads (after_load form) (λ (o : Outcome). Wrote written written o.texts c.in-Err-fetch.status) held form.project
+    (λ o. unfetched_wrote (Vec ℕ Global) (λ v. v.items) held form.script which.Script script_limit script_failed script_wanted c.in-Err-fetch.status written o.texts answer)
 
 pub returns-in-Err-fetch-clause-fetches : goal.returns-in-Err-fetch-clause-fetches
 returns-in-Err-fetch-clause-fetches g c = (
@@ -63,36 +62,33 @@ pub returns-clause-exact : goal.returns-clause-exact
 returns-clause-exact g c =
     let held = g.H.Shelf.held c.args.shelf.now in
     let form : Form = record { project = c.args.project.now; script = c.args.script.now } in
-    let small = subst (λ bs. length bs ≤ project_limit) (sym c.deref.ensures.value) c.in-Ok.ensures.answer.0 in
-    let is = subst (λ bs. IfSome held (λ files. get files form.project ≡ Some bs)) (sym c.deref.ensures.value) c.in-Ok.ensures.answer.1 in
-    let short = subst (λ bs. length bs ≤ script_limit) (sym c.deref-2.ensures.value) c.in-Ok-fetch.ensures.answer.0 in
-    let text = subst (λ bs. IfSome held (λ files. get files form.script ≡ Some bs)) (sym c.deref-2.ensures.value) (subst (λ h. IfSome h (λ files. get files form.script ≡ Some c.in-Ok-fetch.bytes.items)) c.in-Ok.ensures.held c.in-Ok-fetch.ensures.answer.1) in
+    let project = fetched_file held held form.project project_limit c.in-Ok.bytes.items c.deref.result.now refl c.deref.ensures.value c.in-Ok.ensures.answer in
+    let script = fetched_file _ held form.script script_limit c.in-Ok-fetch.bytes.items c.deref-2.result.now c.in-Ok.ensures.held c.deref-2.ensures.value c.in-Ok-fetch.ensures.answer in
     let failed = Rose (g.H.Shelf.fetch_faults c.args.shelf.now form.project) (g.H.Shelf.fetch_faults c.fetch-2.new.shelf form.project) in
     let wanted = Rose (g.H.Shelf.wants c.args.shelf.now) (g.H.Shelf.wants c.fetch-2.new.shelf) in
-    at_end (λ (o : Outcome). AnswerCause failed wanted o.ending c.play_lines.result) held form c.deref.result.now c.deref-2.result.now c.in-Ok-load.project small is c.in-Ok-load.ensures short text
-    (played_cause _ failed wanted _ c.play_lines.result c.play_lines.ensures.cause)
+    let P : Outcome → Type 0 = λ o. AnswerCause failed wanted o.ending c.play_lines.result in
+    at_accepted Loads (after_load form) P held form.project c.deref.result.now c.in-Ok-load_first.project (first_reading c.deref.result.now) project c.in-Ok-load_first.ensures
+    (at_end P held form c.deref-2.result.now c.in-Ok-load_first.project script (played_cause _ failed wanted _ c.play_lines.result c.play_lines.ensures.cause))
 
 pub returns-clause-bytes : goal.returns-clause-bytes
 returns-clause-bytes g c =
     let held = g.H.Shelf.held c.args.shelf.now in
     let form : Form = record { project = c.args.project.now; script = c.args.script.now } in
-    let small = subst (λ bs. length bs ≤ project_limit) (sym c.deref.ensures.value) c.in-Ok.ensures.answer.0 in
-    let is = subst (λ bs. IfSome held (λ files. get files form.project ≡ Some bs)) (sym c.deref.ensures.value) c.in-Ok.ensures.answer.1 in
-    let short = subst (λ bs. length bs ≤ script_limit) (sym c.deref-2.ensures.value) c.in-Ok-fetch.ensures.answer.0 in
-    let text = subst (λ bs. IfSome held (λ files. get files form.script ≡ Some bs)) (sym c.deref-2.ensures.value) (subst (λ h. IfSome h (λ files. get files form.script ≡ Some c.in-Ok-fetch.bytes.items)) c.in-Ok.ensures.held c.in-Ok-fetch.ensures.answer.1) in
-    at_end (λ (o : Outcome). Wrote (g.K.Sink.written c.args.out.now) (g.K.Sink.written c.play_lines.new.out) o.frames c.play_lines.result) held form c.deref.result.now c.deref-2.result.now c.in-Ok-load.project small is c.in-Ok-load.ensures short text
-    c.play_lines.ensures.bytes
+    let project = fetched_file held held form.project project_limit c.in-Ok.bytes.items c.deref.result.now refl c.deref.ensures.value c.in-Ok.ensures.answer in
+    let script = fetched_file _ held form.script script_limit c.in-Ok-fetch.bytes.items c.deref-2.result.now c.in-Ok.ensures.held c.deref-2.ensures.value c.in-Ok-fetch.ensures.answer in
+    let P : Outcome → Type 0 = λ o. Wrote (g.K.Sink.written c.args.out.now) (g.K.Sink.written c.play_lines.new.out) o.texts c.play_lines.result in
+    at_accepted Loads (after_load form) P held form.project c.deref.result.now c.in-Ok-load_first.project (first_reading c.deref.result.now) project c.in-Ok-load_first.ensures
+    (at_end P held form c.deref-2.result.now c.in-Ok-load_first.project script c.play_lines.ensures.bytes)
 
 pub returns-clause-writes : goal.returns-clause-writes
 returns-clause-writes g c =
     let held = g.H.Shelf.held c.args.shelf.now in
     let form : Form = record { project = c.args.project.now; script = c.args.script.now } in
-    let small = subst (λ bs. length bs ≤ project_limit) (sym c.deref.ensures.value) c.in-Ok.ensures.answer.0 in
-    let is = subst (λ bs. IfSome held (λ files. get files form.project ≡ Some bs)) (sym c.deref.ensures.value) c.in-Ok.ensures.answer.1 in
-    let short = subst (λ bs. length bs ≤ script_limit) (sym c.deref-2.ensures.value) c.in-Ok-fetch.ensures.answer.0 in
-    let text = subst (λ bs. IfSome held (λ files. get files form.script ≡ Some bs)) (sym c.deref-2.ensures.value) (subst (λ h. IfSome h (λ files. get files form.script ≡ Some c.in-Ok-fetch.bytes.items)) c.in-Ok.ensures.held c.in-Ok-fetch.ensures.answer.1) in
-    at_end (λ (o : Outcome). Writes (g.K.Sink.calls c.args.out.now) (g.K.Sink.calls c.play_lines.new.out) o.frames c.play_lines.result) held form c.deref.result.now c.deref-2.result.now c.in-Ok-load.project small is c.in-Ok-load.ensures short text
-    c.play_lines.ensures.writes
+    let project = fetched_file held held form.project project_limit c.in-Ok.bytes.items c.deref.result.now refl c.deref.ensures.value c.in-Ok.ensures.answer in
+    let script = fetched_file _ held form.script script_limit c.in-Ok-fetch.bytes.items c.deref-2.result.now c.in-Ok.ensures.held c.deref-2.ensures.value c.in-Ok-fetch.ensures.answer in
+    let P : Outcome → Type 0 = λ o. Writes (g.K.Sink.calls c.args.out.now) (g.K.Sink.calls c.play_lines.new.out) o.texts c.play_lines.result in
+    at_accepted Loads (after_load form) P held form.project c.deref.result.now c.in-Ok-load_first.project (first_reading c.deref.result.now) project c.in-Ok-load_first.ensures
+    (at_end P held form c.deref-2.result.now c.in-Ok-load_first.project script c.play_lines.ensures.writes)
 
 pub returns-clause-fetches : goal.returns-clause-fetches
 returns-clause-fetches g c =

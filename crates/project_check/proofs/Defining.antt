@@ -1,0 +1,175 @@
+-- The definition of a procedure that a target's program has.
+use Rattle.std.proofs.Common.{◌≡◌, ℕ, zero, suc, ◌+◌, ◌<◌, Bool, true, false, cond, List, [], ◌∷◌, length, Option, Some, None, refl, sym, ap, ◌∙◌, subst, arith}
+use Rattle.std.specs.Prelude.{slice_get, unwrap_or, option_map, IfSome, bytes_eq, filter, find, filter_map, if◌then◌else◌}
+use Rattle.std.specs.List.{enumerate_from, cons_option, slice_index_or}
+use Rattle.std.proofs.lemmas.List.{length-map}
+use Rattle.std.proofs.lemmas.Option.{slice_get-map}
+use Rattle.std.proofs.lemmas.Slice.Eq.{bytes_eq-Decides}
+use Rattle.opcode_table.specs.declared.shape.Role.TheVariants as role
+use Rattle.script_machine.specs.Script.{Script}
+use Rattle.script_machine.specs.Program.{Procedure, scripts_at, procedure}
+use Rattle.project_file.specs.declared.blocks.Prototype.{Prototype}
+use Rattle.block_table.specs.declared.table.BlockTable.{BlockTable}
+use Rattle.project_file.specs.declared.blocks.Block.{Block}
+use Rattle.project_file.specs.declared.blocks.Input.{Input}
+use Rattle.project_file.specs.declared.blocks.Input.TheVariants as input
+use Rattle.project_file.specs.declared.blocks.Link.TheVariants.{To, Unknown}
+use Rattle.project_file.specs.Linked.{has_role, is_head, named, custom_block}
+use Rattle.project_file.specs.Trees.{Sheet, script, linked_prototype, procedure_by, procedure_at, first_of_each, procedures_of, scripts_of, sheet_of, sheets}
+use Rattle.project_check.specs.declared.project.Project.{Project}
+use Rattle.project_check.specs.Heads.{head_number, head_numbers}
+use Rattle.project_check.specs.Procedures.{bare, has_code, defines_by, defines_at}
+use Rattle.project_check.proofs.Resolved.{blocks_here}
+use Rattle.project_check.specs.Loaded.{tables_of, names_of, blocks_at, sheet_at, program_of}
+
+-- the first of each code is the first of all
+
+drop_filter : {A : Type 0} (p f : A → Bool) (b : Bool) (y : A) (ys : List A) → f y ≡ b → (p y ≡ true → b ≡ true) → find p (filter f ys) ≡ find p ys → find p (filter f (y ∷ ys)) ≡ find p (y ∷ ys)
+drop_filter p f true y ys e h rest = rw e (ap (cond (p y) (Some y)) rest)
+drop_filter p f false y ys e h rest = rw e (out (p y) refl)
+  where
+    out : (c : Bool) → p y ≡ c → find p (filter f ys) ≡ cond c (Some y) (find p ys)
+    out true k = absurd (cc (h k))
+    out false k = rest
+
+find_filter : {A : Type 0} (p f : A → Bool) (ys : List A) → ((y : A) → p y ≡ true → f y ≡ true) → find p (filter f ys) ≡ find p ys
+find_filter p f [] h = refl
+find_filter p f (y ∷ ys) h = drop_filter p f (f y) y ys refl (h y) (find_filter p f ys h)
+
+two_codes : (a b c : List ℕ) → bytes_eq a c ≡ false → bytes_eq b c ≡ true → bytes_eq a b ≡ false
+two_codes a b c apart same = subst (λ z. bytes_eq a z ≡ false) (sym ((bytes_eq-Decides b c).0 same)) apart
+
+first_found : (code : List ℕ) (qs : List Procedure) → find (λ q. bytes_eq q.code code) (first_of_each qs) ≡ find (λ q. bytes_eq q.code code) qs
+first_found code [] = refl
+first_found code (q ∷ qs) = turn (bytes_eq q.code code) refl (first_found code qs)
+  where
+    turn : (c : Bool) → bytes_eq q.code code ≡ c → find (λ x. bytes_eq x.code code) (first_of_each qs) ≡ find (λ x. bytes_eq x.code code) qs
+        → find (λ x. bytes_eq x.code code) (first_of_each (q ∷ qs)) ≡ find (λ x. bytes_eq x.code code) (q ∷ qs)
+    turn true e rest = rw e refl
+    turn false e rest = rw e (find_filter (λ x. bytes_eq x.code code) _ (first_of_each qs) (λ y same. rw (two_codes q.code y.code code e same) refl) ∙ rest)
+
+-- what a block's link leads to does not stand on what blocks name
+alone : (sheet : Sheet) (x : Option Input) → linked_prototype (bare sheet.blocks) x ≡ linked_prototype sheet x
+alone sheet None = refl
+alone sheet (Some (input.Reporter (To j))) = refl
+alone sheet (Some (input.Reporter (Unknown id))) = refl
+alone sheet (Some (input.Literal v)) = refl
+alone sheet (Some (input.Variable n)) = refl
+alone sheet (Some (input.List n)) = refl
+alone sheet (Some input.Absent) = refl
+
+the_first : (n : ℕ) → n ≡ n + 0
+the_first n = omega arith
+
+the_next : (n i : ℕ) → (n + 1) + i ≡ n + suc i
+the_next n i = omega arith
+
+none_before : (i : ℕ) → 0 + i ≡ i
+none_before i = omega arith
+
+module _ (sheet : Sheet) (code : List ℕ) where
+  abbrev procedures_found : List Procedure → Option Script
+  procedures_found qs = option_map (λ q. q.body) (find (λ q. bytes_eq q.code code) qs)
+
+  abbrev numbers_found : List ℕ → Option Script
+  numbers_found ks = option_map (λ k. script sheet (Some k)) (find (defines_at sheet.blocks code) ks)
+
+  passed_by : (n : ℕ) (ks : List ℕ) → defines_at sheet.blocks code n ≡ false → numbers_found (n ∷ ks) ≡ numbers_found ks
+  passed_by n ks e = rw e refl
+
+  one : (n : ℕ) (t d : Bool) (o : Option Prototype) (qs : List Procedure) (ks : List ℕ) → defines_at sheet.blocks code n ≡ (if d then has_code code o else false) → procedures_found qs ≡ numbers_found ks
+      → procedures_found (cons_option (if t then (if d then procedure_by sheet n o else None) else None) qs) ≡ numbers_found (cons_option (if t then Some n else None) ks)
+  one n false d o qs ks e rest = rest
+  one n true false o qs ks e rest = rest ∙ sym (passed_by n ks e)
+  one n true true None qs ks e rest = rest ∙ sym (passed_by n ks e)
+  one n true true (Some q) qs ks e rest = both (bytes_eq q.code code) refl
+    where
+      both : (c : Bool) → bytes_eq q.code code ≡ c → procedures_found (cons_option (procedure_by sheet n (Some q)) qs) ≡ numbers_found (n ∷ ks)
+      both true same = rw (same, e ∙ same) refl
+      both false same = rw same (rest ∙ sym (passed_by n ks (e ∙ same)))
+
+  at_block : (b : Block) (o : Option Block) → o ≡ Some b → defines_by sheet.blocks code o ≡ (if has_role role.Definition b.code then has_code code (linked_prototype sheet (named custom_block b.inputs)) else false)
+  at_block b o e = ap (defines_by sheet.blocks code) e ∙ ap (λ p. if has_role role.Definition b.code then has_code code p else false) (alone sheet (named custom_block b.inputs))
+
+  all_found : (n : ℕ) (bs : List Block) → ((i : ℕ) → slice_get sheet.blocks (n + i) ≡ slice_get bs i)
+      → procedures_found (filter_map (procedure_at sheet) (enumerate_from n bs)) ≡ numbers_found (filter_map head_number (enumerate_from n bs))
+  all_found n [] held = refl
+  all_found n (b ∷ bs) held =
+      one n (is_head b) (has_role role.Definition b.code) (linked_prototype sheet (named custom_block b.inputs)) (filter_map (procedure_at sheet) (enumerate_from (n + 1) bs)) (filter_map head_number (enumerate_from (n + 1) bs))
+      (at_block b (slice_get sheet.blocks n) (ap (slice_get sheet.blocks) (the_first n) ∙ held 0)) (all_found (n + 1) bs (λ i. ap (slice_get sheet.blocks) (the_next n i) ∙ held (suc i)))
+
+  pub body_found : option_map (λ k. script sheet (Some k)) (find (defines_at sheet.blocks code) (head_numbers sheet.blocks)) ≡ option_map (λ q. q.body) (find (λ q. bytes_eq q.code code) (procedures_of sheet))
+  body_found = sym (all_found 0 sheet.blocks (λ i. ap (slice_get sheet.blocks) (none_before i))) ∙ ap (option_map (λ q. q.body)) (sym (first_found code (filter_map (procedure_at sheet) (enumerate_from 0 sheet.blocks))))
+
+-- a number that is found is that of a block
+
+found_by : (p : ℕ → Bool) (x k : ℕ) (c : Bool) (rest : Option ℕ) → p x ≡ c → (rest ≡ Some k → p k ≡ true) → cond c (Some x) rest ≡ Some k → p k ≡ true
+found_by p x k true rest h more e = let same : x ≡ k = cc e in subst (λ z. p z ≡ true) same h
+found_by p x k false rest h more e = more e
+
+found_true : (p : ℕ → Bool) (ks : List ℕ) (k : ℕ) → find p ks ≡ Some k → p k ≡ true
+found_true p [] k e = absurd (cc e)
+found_true p (x ∷ xs) k e = found_by p x k (p x) (find p xs) refl (found_true p xs k) e
+
+held_below : {A : Type 0} (xs : List A) (k : ℕ) (x : A) → slice_get xs k ≡ Some x → k < length xs
+held_below [] k x e = absurd (cc e)
+held_below (y ∷ ys) zero x e = omega arith
+held_below (y ∷ ys) (suc k) x e = omega (arith, held_below ys k x e)
+
+defined_below : (blocks : List Block) (code : List ℕ) (k : ℕ) (o : Option Block) → slice_get blocks k ≡ o → defines_by blocks code o ≡ true → k < length blocks
+defined_below blocks code k None e d = absurd (cc d)
+defined_below blocks code k (Some b) e d = held_below blocks k b e
+
+pub number_below : (blocks : List Block) (code : List ℕ) (ks : List ℕ) (o : Option ℕ) → find (defines_at blocks code) ks ≡ o → IfSome o (λ k. k < length blocks)
+number_below blocks code ks None e = tt
+number_below blocks code ks (Some k) e = defined_below blocks code k (slice_get blocks k) refl (found_true (defines_at blocks code) ks k e)
+
+-- the scripts of a target
+
+numbered_at : {A : Type 0} (n t : ℕ) (xs : List A) → slice_get (enumerate_from n xs) t ≡ option_map (λ x. (n + t, x)) (slice_get xs t)
+numbered_at n t [] = refl
+numbered_at n zero (x ∷ xs) = ap (λ k. Some (k, x)) (the_first n)
+numbered_at n (suc t) (x ∷ xs) = numbered_at (n + 1) t xs ∙ ap (λ k. option_map (λ x. (k, x)) (slice_get xs t)) (the_next n t)
+
+held_at : {A : Type 0} (xs : List A) (t : ℕ) (d : A) → t < length xs → slice_get xs t ≡ Some (unwrap_or (slice_get xs t) d)
+held_at [] t d h = absurd (omega (arith, h))
+held_at (x ∷ xs) zero d h = refl
+held_at (x ∷ xs) (suc t) d h = held_at xs t d (omega (arith, h))
+
+pub scripts_here : (p : Project) (t : ℕ) → t < length (tables_of p) → scripts_at t (program_of p) ≡ scripts_of (sheet_at t p)
+scripts_here p t h =
+    ap (λ o. unwrap_or o (record { heads = []; procedures = [] }))
+    (slice_get-map scripts_of (sheets (tables_of p) (names_of p)) t
+    ∙ ap (option_map scripts_of)
+    (slice_get-map (sheet_of (names_of p)) (enumerate_from 0 (tables_of p)) t
+    ∙ ap (option_map (sheet_of (names_of p))) (numbered_at 0 t (tables_of p) ∙ ap (λ k. option_map (λ x. (k, x)) (slice_get (tables_of p) t)) (none_before t) ∙ ap (option_map (λ x. (t, x))) (held_at (tables_of p) t [] h))))
+
+-- the body that begins with the number that is found
+pub procedure_found : (p : Project) (t : ℕ) (code : List ℕ) (o : Option ℕ) → t < length (tables_of p) → o ≡ find (defines_at (blocks_at t p) code) (head_numbers (blocks_at t p))
+    → option_map (λ k. script (sheet_at t p) (Some k)) o ≡ option_map (λ q. q.body) (procedure t code (program_of p))
+procedure_found p t code o h e =
+    ap (option_map (λ k. script (sheet_at t p) (Some k))) e ∙ body_found (sheet_at t p) code ∙ ap (λ s. option_map (λ q. q.body) (find (λ q. bytes_eq q.code code) s.procedures)) (sym (scripts_here p t h))
+
+-- the blocks and the heads of a target, as a project keeps them
+
+heads_row : (lists : List (List ℕ)) (t : ℕ) (heads : List ℕ) → t < length lists → heads ≡ slice_index_or lists t heads → slice_get lists t ≡ Some heads
+heads_row [] t heads h e = absurd (omega (arith, h))
+heads_row (x ∷ xs) zero heads h e = ap Some (sym e)
+heads_row (x ∷ xs) (suc t) heads h e = heads_row xs t heads (omega (arith, h)) e
+
+some_same : {A : Type 0} (x y : A) → Some x ≡ Some y → x ≡ y
+some_same x y e = cc e
+
+heads_here : (p : Project) (t : ℕ) (heads : List ℕ) → t < length (tables_of p) → heads ≡ slice_index_or p.heads.items t heads → heads ≡ head_numbers (blocks_at t p)
+heads_here p t heads h e =
+    let long : length p.heads.items ≡ length (tables_of p) = ap length p.kept.heads ∙ length-map (tables_of p) head_numbers in
+    some_same heads (head_numbers (blocks_at t p))
+    (sym (heads_row p.heads.items t heads (omega (arith, h, long)) e) ∙ ap (λ xs. slice_get xs t) p.kept.heads ∙ slice_get-map head_numbers (tables_of p) t ∙ ap (option_map head_numbers) (held_at (tables_of p) t [] h))
+
+pub found_in : (p : Project) (t : ℕ) (code : List ℕ) → t < length (tables_of p) → (i : ℕ) (table : BlockTable) (heads : List ℕ) (blocks : List Block) (ks : List ℕ) (o : Option ℕ)
+    → i ≡ t → table ≡ slice_index_or p.tables.items i table → heads ≡ slice_index_or p.heads.items i heads → blocks ≡ table.blocks → ks ≡ heads → o ≡ find (defines_at blocks code) ks
+    → o ≡ find (defines_at (blocks_at t p) code) (head_numbers (blocks_at t p))
+found_in p t code h i table heads blocks ks o here at_table at_heads bs same e =
+    let table_here : table ≡ slice_index_or p.tables.items t table = subst (λ k. table ≡ slice_index_or p.tables.items k table) here at_table in
+    let row_here : heads ≡ slice_index_or p.heads.items t heads = subst (λ k. heads ≡ slice_index_or p.heads.items k heads) here at_heads in
+    e ∙ ap (λ xs. find (defines_at xs code) ks) (bs ∙ sym (blocks_here p.tables.items t table h table_here)) ∙ ap (find (defines_at (blocks_at t p) code)) (same ∙ heads_here p t heads h row_here)

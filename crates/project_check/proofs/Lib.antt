@@ -1,0 +1,5 @@
+pub mod Room
+pub mod Resolved
+pub mod FirstTooMany
+pub mod Linking
+pub mod Defining

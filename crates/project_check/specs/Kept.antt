@@ -1,0 +1,23 @@
+-- What every project keeps.
+use Rattle.std.specs.Prelude.{◌≡◌, ℕ, ◌<◌, ◌^◌, List, length, map, slice_get, Some}
+use Rattle.std.specs.List.{All}
+use Rattle.project_file.specs.declared.blocks.Block.{Block}
+use Rattle.project_file.specs.declared.blocks.Resolved.{Resolved}
+use Rattle.project_file.specs.Linked.{AreRanks}
+use Rattle.project_file.specs.Refusals.{tests, Passes}
+use Rattle.script_machine.specs.Program.{Records}
+use Rattle.linked_blocks.specs.Kept.{Kept}
+use Rattle.project_check.specs.Counts.{block_count}
+use Rattle.project_check.specs.Heads.{head_numbers}
+
+-- Each target has its blocks, with ranks that fall along every link, and what each block names; the blocks pass all tests.
+pub record IsProjectOf (records : Records) (tables : List (List Block)) (kept : List Kept) (resolved : List (List (List Resolved))) (numbers : List (List ℕ)) (total : ℕ) : Type 0 where
+  pub targets : length records.targets ≡ length tables
+  pub few : length tables < 2 ^ 32
+  pub tests : All (Passes tables) tests
+  pub links : length kept ≡ length tables
+  pub ranks : (t : ℕ) (blocks : List Block) (k : Kept) → slice_get tables t ≡ Some blocks → slice_get kept t ≡ Some k → AreRanks blocks k.ranks
+  pub names : length resolved ≡ length tables
+  pub each : (t : ℕ) (blocks : List Block) (refs : List (List Resolved)) → slice_get tables t ≡ Some blocks → slice_get resolved t ≡ Some refs → length refs ≡ length blocks
+  pub heads : numbers ≡ map head_numbers tables
+  pub count : total ≡ block_count tables

@@ -1,0 +1,76 @@
+//! The heads of a target.
+
+ghost use Rattle.std.specs.Prelude.{◌≡◌, ◌<◌, ◌^◌, ◌||◌, length, map, IfOk};
+ghost use Rattle.opcode_table.specs.declared.shape.Role.TheVariants as role;
+ghost use Rattle.project_file.specs.Linked.{has_role, is_head};
+ghost use Rattle.project_check.specs.Heads.{head_numbers};
+
+use block_table::BlockTable;
+use lists::ListOf;
+use opcode_table::{Role, spec};
+use project_file::{Block, Code};
+use script_machine::BlockId;
+use std::alloc::{AllocError, Global};
+
+/// The numbers of heads, in block order.
+pub type Heads = ListOf<BlockId>;
+
+// Whether the opcode is that of a hat or a definition.
+fn heads_stack(code: &Code) -> bool
+    ensures { result ≡ (has_role role.Hat code.now || has_role role.Definition code.now) }
+{
+    match code {
+        Code::Known(op) => match spec(*op).role {
+            Role::Hat => true,
+            Role::Definition => true,
+            Role::Prototype => false,
+            Role::Command => false,
+            Role::Reporter => false,
+        },
+        Code::Other(_) => false,
+    }
+}
+
+// Whether the block is a hat or a definition at the top of a stack.
+fn is_head(block: &Block) -> bool
+    ensures { result ≡ is_head block.now }
+{
+    if block.top_level {
+        heads_stack(&block.code)
+    } else {
+        false
+    }
+}
+
+// The heads among the blocks of a target.
+fn heads(alloc: Global, blocks: &[Block]) -> Result<Heads, AllocError>
+    requires { length blocks.now < 2 ^ 32 }
+    ensures { IfOk result (λ heads. heads ≡ head_numbers blocks.now) }
+{
+    let mut heads = Heads::new(alloc);
+    for (k, block) in blocks.iter().enumerate() {
+        if is_head(block) {
+            heads.push(BlockId(k as u32))?;
+        }
+    }
+    Ok(heads)
+}
+
+/// The heads of each target.
+pub fn all_heads(alloc: Global, tables: &[BlockTable]) -> Result<Vec<Heads>, AllocError>
+    ensures { IfOk result (λ v. v.items ≡ map head_numbers (map (λ t. t.blocks) tables.now)) }
+{
+    let mut all = Vec::new(alloc);
+    for table in tables {
+        let heads = table_heads(alloc, table)?;
+        all.push(heads)?;
+    }
+    Ok(all)
+}
+
+fn table_heads(alloc: Global, table: &BlockTable) -> Result<Heads, AllocError>
+    ensures { IfOk result (λ heads. heads ≡ head_numbers table.now.blocks) }
+{
+    let _few = table.len();
+    heads(alloc, table.blocks())
+}

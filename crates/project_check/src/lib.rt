@@ -1,0 +1,17 @@
+//! Which project files are accepted, why the others are refused, and the projects that they tell: records, blocks that
+//! are well linked, and what each block names.
+#![tactic(auto)]
+
+mod file;
+mod heads;
+mod loading;
+mod measuring;
+mod procedures;
+mod project;
+
+pub use heads::Heads;
+pub use loading::load;
+pub use project::Project;
+
+#[cfg(test)]
+mod tests;

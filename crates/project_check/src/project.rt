@@ -1,0 +1,170 @@
+//! A project that is well linked, by its type.
+
+ghost use Rattle.std.specs.Prelude.{◌≡◌, map};
+ghost use Rattle.target_records.specs.Records.{records_in};
+ghost use Rattle.project_file.specs.Resolving as told;
+ghost use Rattle.project_check.specs.Kept.{IsProjectOf};
+ghost use Rattle.project_check.specs.Parts.{is_part};
+
+use crate::heads::Heads;
+use crate::procedures::definition;
+use block_table::BlockTable;
+use linked_blocks::BlockLinks;
+use name_resolving::ResolvedNames;
+use project_file::{Block, Resolved};
+use scratch_values::VarRef;
+use script_machine::{BlockId, TargetId};
+use target_records::Records;
+
+/// A project. Its links lead to blocks and a rank falls along each, its blocks pass all tests of the loader, and what
+/// the blocks of checked scripts name is resolved. Contracts see its program, and of each target the blocks and what
+/// they name (specs/Loaded.antt).
+#[derive(Drop)]
+pub struct Project {
+    pub(crate) records: Records,
+    pub(crate) tables: Vec<BlockTable>,
+    pub(crate) links: Vec<BlockLinks>,
+    pub(crate) names: ResolvedNames,
+    pub(crate) heads: Vec<Heads>,
+    pub(crate) blocks: u32,
+    pub ghost kept: { IsProjectOf (records_in records) (map (λ t. t.blocks) tables.items) links.items names heads.items blocks },
+}
+
+// Whether it is what this part of a block names.
+fn is_part(resolved: &Resolved, in_input: bool, part: &str) -> bool
+    ensures { result ≡ is_part in_input part.now resolved.now }
+{
+    if resolved.in_input == in_input {
+        resolved.part.as_str() == part
+    } else {
+        false
+    }
+}
+
+// What a part of a block names.
+fn ref_in(refs: &[Resolved], in_input: bool, part: &str) -> Option<VarRef>
+    ensures { result ≡ told.ref_in refs.now in_input part.now }
+{
+    match refs
+        .iter()
+        .find(|resolved| is_part(resolved, in_input, part))
+    {
+        Some(resolved) => Some(resolved.variable),
+        None => None,
+    }
+}
+
+impl Project {
+    ghost use Rattle.std.specs.Prelude.{◌≡◌, ◌<◌, true, false, length, slice_get, slice_index, option_map, Some, IfSome};
+    ghost use Rattle.target_records.specs.Records.{records_in};
+    ghost use Rattle.project_file.specs.Linked.{IsClosed, AreRanks};
+    ghost use Rattle.project_file.specs.Resolving as told;
+    ghost use Rattle.project_file.specs.Trees.{script};
+    ghost use Rattle.script_machine.specs.Program.{procedure};
+    ghost use Rattle.project_check.specs.Counts.{block_count};
+    ghost use Rattle.project_check.specs.Heads.{head_numbers};
+    ghost use Rattle.project_check.specs.Loaded.{tables_of, program_of, blocks_at, names_at, ranks_at, sheet_at};
+
+    /// The records of its targets and monitors.
+    pub fn records(&self) -> &Records
+        ensures records { records_in result.now ≡ (program_of self.now).records }
+        ensures targets { length (records_in result.now).targets ≡ length (tables_of self.now) }
+    {
+        &self.records
+    }
+
+    /// How many targets there are.
+    pub fn target_count(&self) -> u32
+        ensures { result ≡ length (tables_of self.now) }
+    {
+        self.tables.len() as u32
+    }
+
+    /// How many blocks all targets have together.
+    pub fn block_count(&self) -> u32
+        ensures { result ≡ block_count (tables_of self.now) }
+    {
+        self.blocks
+    }
+
+    /// The blocks of a target, with their ids.
+    pub fn blocks(&self, target: TargetId) -> &BlockTable
+        requires { target < length (tables_of self.now) }
+        ensures blocks { result.now.blocks ≡ blocks_at target self.now }
+        ensures closed { IsClosed (blocks_at target self.now) }
+    {
+        let table = &self.tables[target.0 as usize];
+        let _closed = table.blocks();
+        table
+    }
+
+    /// The heads of a target, in block order: the hats and definitions at the tops of stacks. They head the checked
+    /// scripts.
+    pub fn heads(&self, target: TargetId) -> &Heads
+        requires { target < length (tables_of self.now) }
+        ensures { result.now ≡ head_numbers (blocks_at target self.now) }
+    {
+        &self.heads[target.0 as usize]
+    }
+
+    /// The definition of a target's procedure with the code: the first head that defines it. `None` where the target has
+    /// none. The procedure's body begins with it.
+    pub fn procedure(&self, target: TargetId, code: &str) -> Option<BlockId>
+        requires { target < length (tables_of self.now) }
+        ensures body { option_map (λ k. script (sheet_at target self.now) (Some k)) result ≡ option_map (λ q. q.body) (procedure target code.now (program_of self.now)) }
+        ensures member { IfSome result (λ k. k < length (blocks_at target self.now)) }
+    {
+        let blocks = self.tables[target.0 as usize].blocks();
+        definition(blocks, self.heads[target.0 as usize].as_slice(), code)
+    }
+
+    /// A block of a target.
+    pub fn block(&self, target: TargetId, id: BlockId) -> &Block
+        requires held { target < length (tables_of self.now) }
+        requires member { id < length (blocks_at target self.now) }
+        ensures { slice_get (blocks_at target self.now) id ≡ Some result.now }
+    {
+        let blocks = self.tables[target.0 as usize].blocks();
+        &blocks[id.0 as usize]
+    }
+
+    /// The rank of a block of a target: it falls along every link, and is below the number of the target's blocks.
+    pub fn rank(&self, target: TargetId, id: BlockId) -> usize
+        requires held { target < length (tables_of self.now) }
+        requires member { id < length (blocks_at target self.now) }
+        ensures rank { result ≡ slice_index (ranks_at target self.now) id }
+        ensures ranks { AreRanks (blocks_at target self.now) (ranks_at target self.now) }
+    {
+        self.links[target.0 as usize].rank(id.0)
+    }
+
+    /// The variable or list that a field of a block names, as it was resolved at load. `Some` exactly where the block is
+    /// in a checked script and the field is one of its opcode that names a variable or a list.
+    pub fn field_variable(&self, target: TargetId, id: BlockId, field: &str) -> Option<VarRef>
+        requires held { target < length (tables_of self.now) }
+        requires member { id < length (blocks_at target self.now) }
+        ensures { result ≡ told.ref_at (names_at target self.now) id false field.now }
+    {
+        ref_in(self.refs(target, id), false, field)
+    }
+
+    /// The variable or list that an input of a block is, as it was resolved at load. `Some` exactly where the block is
+    /// in a checked script and the input is a variable or a list.
+    pub fn input_variable(&self, target: TargetId, id: BlockId, input: &str) -> Option<VarRef>
+        requires held { target < length (tables_of self.now) }
+        requires member { id < length (blocks_at target self.now) }
+        ensures { result ≡ told.ref_at (names_at target self.now) id true input.now }
+    {
+        ref_in(self.refs(target, id), true, input)
+    }
+
+    // What the parts of a block name.
+    fn refs(&self, target: TargetId, id: BlockId) -> &[Resolved]
+        requires held { target < length (tables_of self.now) }
+        requires member { id < length (blocks_at target self.now) }
+        ensures { slice_get (names_at target self.now) id ≡ Some result.now }
+    {
+        let names = self.names.as_slice()[target.0 as usize].as_slice();
+        names[id.0 as usize].as_slice()
+    }
+}
