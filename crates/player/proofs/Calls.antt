@@ -1,5 +1,5 @@
 -- A call's stages against its outcome.
-use Rattle.std.proofs.Common.{◌≡◌, ℕ, ◌<◌, ◌≤◌, Bool, true, false, cond, ltb, List, [], length, Option, None, Some, Err, refl, sym, ap, ◌∙◌, subst, inr, arith}
+use Rattle.std.proofs.Common.{◌≡◌, ℕ, ◌<◌, ◌≤◌, Bool, true, false, cond, ltb, List, length, Option, None, Some, Err, refl, sym, ap, ◌∙◌, subst, inr, arith}
 use Rattle.std.specs.Prelude.{IfSome, IsSomeAnd, IsSome}
 use Rattle.std.specs.FinMap.{get}
 use Rattle.std.proofs.lemmas.Bool.Decides.{nat_tests}
@@ -19,10 +19,10 @@ use Rattle.first_projects.specs.FirstProject.{Project}
 use Rattle.first_projects.specs.FirstForm.{project_of}
 use Rattle.sequencer.specs.Frame.{first_world}
 use Rattle.player.specs.Limits.{project_limit, script_limit}
-use Rattle.player.specs.Command.{Form, play, check}
+use Rattle.player.specs.Command.{Form}
 use Rattle.player.specs.Lines.{lines_of}
 use Rattle.player.specs.Output.{RunEnding, whole, played}
-use Rattle.player.specs.Promise.{Loading, refused, accepted, IsNotFirstForm, Loads, Checks, counts_of, OfFile, missing, too_large, not_accepted, unloaded, ran, Ending, Outcome, ends, all_of, fetched, loaded, told_counts, IsFetched, IsLoaded, AnswerCause, Wrote, FetchesOf, Promised}
+use Rattle.player.specs.Promise.{Loading, refused, accepted, IsNotFirstForm, Loads, Checks, counts_of, OfFile, missing, too_large, not_accepted, unloaded, ran, Ending, Outcome, ends, all_of, fetched, loaded, IsFetched, IsLoaded, AnswerCause, Wrote, FetchesOf}
 use Rattle.player.specs.Stages.{Fetched, Loaded, RefusedAs, PlayedTo}
 use Rattle.player.specs.Told.{text_of_refusal}
 use Rattle.player.specs.declared.counts.Counts.{Counts}

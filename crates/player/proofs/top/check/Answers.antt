@@ -1,6 +1,4 @@
-use Rattle.std.proofs.Common.{refl, ◌≡◌, ◌≤◌, ℕ, sym, subst, length, Some}
-use Rattle.std.specs.Prelude.{IfSome}
-use Rattle.std.specs.FinMap.{get}
+use Rattle.std.proofs.Common.{refl}
 use Rattle.sv_channels.specs.Counts.{Rose}
 use Rattle.player.specs.Limits.{project_limit}
 use Rattle.player.specs.Output.{whole}

@@ -1,4 +1,4 @@
-use Rattle.std.proofs.Common.{◌≡◌, sym, subst}
+use Rattle.std.proofs.Common.{subst}
 use Rattle.std.specs.Prelude.{IfSome}
 use Rattle.sv_channels.specs.Counts.{Rose}
 use Rattle.player.specs.Promise.{AnswerCause, Promised, project_name}

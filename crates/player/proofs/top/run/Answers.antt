@@ -1,6 +1,4 @@
-use Rattle.std.proofs.Common.{refl, ◌≡◌, ◌≤◌, ℕ, sym, subst, ap, ◌∙◌, length, Some, Vec, Err}
-use Rattle.std.specs.Prelude.{IfSome}
-use Rattle.std.specs.FinMap.{get}
+use Rattle.std.proofs.Common.{refl, ℕ, subst, ap, ◌∙◌, Vec, Err}
 use Rattle.std.specs.declared.alloc.Global.{Global}
 use Rattle.sv_channels.specs.Counts.{next_count, Rose}
 use Rattle.first_projects.specs.FirstProject.{Project}
