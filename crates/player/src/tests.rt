@@ -82,7 +82,12 @@ fn told(alloc: Global, status: &Status, written: &[u8]) -> Result<Answer, AllocE
     })
 }
 
-fn answer(alloc: Global, words: &str, project: &[u8], script: &[u8]) -> Result<Answer, AllocError> {
+fn answered(
+    alloc: Global,
+    words: &str,
+    project: &[u8],
+    script: &[u8],
+) -> Result<Answer, AllocError> {
     let mut shelf = shelf(alloc, project, script, Numbers::new(alloc))?;
     let mut out = SteadySink::new(alloc);
     let status = play(alloc, &words_of(alloc, words)?, &mut shelf, &mut out);
@@ -136,8 +141,19 @@ fn plays_to(
     value: &str,
 ) -> Result<(), Fail> {
     let base = project(alloc, stage, cat)?;
-    let answer = answer(alloc, "play p s 1 -", base.as_bytes(), b"flag\nframe 0 1 0\n")?;
-    is_told(rt, &answer, "Done", 0, frame_at(alloc, 1, 0, value)?.as_bytes());
+    let answer = answered(
+        alloc,
+        "play p s 1 -",
+        base.as_bytes(),
+        b"flag\nframe 0 1 0\n",
+    )?;
+    is_told(
+        rt,
+        &answer,
+        "Done",
+        0,
+        frame_at(alloc, 1, 0, value)?.as_bytes(),
+    );
     Ok(())
 }
 
@@ -160,7 +176,7 @@ fn an_empty_script_and_an_unknown_line(rt: HostRuntime) -> Result<(), Fail> {
     let base = project(rt.alloc(), "{}", "{}")?;
     let rows: [(&[u8], &str, u8); 2] = [(b"", "Done", 0), (b"stop\n", "BadScript 2 1", 5)];
     for (script, text, number) in rows {
-        let answer = answer(rt.alloc(), "play p s 1 -", base.as_bytes(), script)?;
+        let answer = answered(rt.alloc(), "play p s 1 -", base.as_bytes(), script)?;
         is_told(&rt, &answer, text, number, b"");
     }
     Ok(())
@@ -203,7 +219,7 @@ fn files_that_are_not_fetched(rt: HostRuntime) -> Result<(), Fail> {
 fn a_project_above_its_limit(rt: HostRuntime) -> Result<(), Fail> {
     let large = vec![in rt.alloc(); b' '; 33_554_433]?;
     for words in ["play p s 1 -", "check p"] {
-        let answer = answer(rt.alloc(), words, &large, b"")?;
+        let answer = answered(rt.alloc(), words, &large, b"")?;
         is_told(&rt, &answer, "TooLarge", 8, b"");
     }
     Ok(())
@@ -231,7 +247,7 @@ fn texts_that_are_no_json(rt: HostRuntime) -> Result<(), Fail> {
     for (bytes, fault) in rows {
         assert_eq!(rt; json_fault(rt.alloc(), "play p s 1 -", bytes)?, Some(fault));
         assert_eq!(rt; json_fault(rt.alloc(), "check p", bytes)?, Some(fault));
-        let answer = answer(rt.alloc(), "check p", bytes, b"")?;
+        let answer = answered(rt.alloc(), "check p", bytes, b"")?;
         is_told(&rt, &answer, "BadProject P1", 4, b"");
     }
     Ok(())
@@ -283,7 +299,7 @@ static CHANGES: [(&str, &str); 17] = [
 fn each_rule_of_the_first_form_refuses(rt: HostRuntime) -> Result<(), Fail> {
     for (old, new) in &CHANGES {
         let text = changed(rt.alloc(), old, new)?;
-        let answer = answer(rt.alloc(), "play p s 1 -", text.as_bytes(), TWO_FRAMES)?;
+        let answer = answered(rt.alloc(), "play p s 1 -", text.as_bytes(), TWO_FRAMES)?;
         is_told(&rt, &answer, "BadProject P2", 4, b"");
     }
     Ok(())
@@ -300,7 +316,7 @@ fn projects_that_are_checked(rt: HostRuntime) -> Result<(), Fail> {
     ];
     for (blocks, text, number, written) in rows {
         let base = project(rt.alloc(), "{}", blocks)?;
-        let answer = answer(rt.alloc(), "check p", base.as_bytes(), b"")?;
+        let answer = answered(rt.alloc(), "check p", base.as_bytes(), b"")?;
         is_told(&rt, &answer, text, number, written.as_bytes());
     }
     Ok(())
@@ -336,7 +352,12 @@ fn lines_that_are_refused(rt: HostRuntime) -> Result<(), Fail> {
     let frame = frame_at(rt.alloc(), 1, 9, "0")?;
     for line in &LINES {
         let script = format!(in rt.alloc(); "# one\nframe 9 10000 1000000\n\n{line}\nflag\n")?;
-        let answer = answer(rt.alloc(), "play p s 1 -", base.as_bytes(), script.as_bytes())?;
+        let answer = answered(
+            rt.alloc(),
+            "play p s 1 -",
+            base.as_bytes(),
+            script.as_bytes(),
+        )?;
         is_told(&rt, &answer, "BadScript 2 4", 5, frame.as_bytes());
     }
     Ok(())
@@ -366,7 +387,7 @@ static NO_FORMS: [&str; 17] = [
 fn words_that_are_no_form(rt: HostRuntime) -> Result<(), Fail> {
     let base = project(rt.alloc(), "{}", "{}")?;
     for words in &NO_FORMS {
-        let answer = answer(rt.alloc(), words, base.as_bytes(), TWO_FRAMES)?;
+        let answer = answered(rt.alloc(), words, base.as_bytes(), TWO_FRAMES)?;
         is_told(&rt, &answer, "Usage", 1, b"");
     }
     Ok(())
@@ -375,7 +396,12 @@ fn words_that_are_no_form(rt: HostRuntime) -> Result<(), Fail> {
 #[test]
 fn the_largest_seed(rt: HostRuntime) -> Result<(), Fail> {
     let base = project(rt.alloc(), "{}", "{}")?;
-    let answer = answer(rt.alloc(), "play p s 18446744073709551615 -", base.as_bytes(), b"")?;
+    let answer = answered(
+        rt.alloc(),
+        "play p s 18446744073709551615 -",
+        base.as_bytes(),
+        b"",
+    )?;
     is_told(&rt, &answer, "Done", 0, b"");
     Ok(())
 }
@@ -408,7 +434,12 @@ fn a_thousand_frames_and_flags(rt: HostRuntime) -> Result<(), Fail> {
         script.push_str(format!(in rt.alloc(); "flag\nframe {number} 1 0\n")?.as_str())?;
         expected.push_str(frame_at(rt.alloc(), number, number, "7")?.as_str())?;
     }
-    let answer = answer(rt.alloc(), "play p s 1 -", base.as_bytes(), script.as_bytes())?;
+    let answer = answered(
+        rt.alloc(),
+        "play p s 1 -",
+        base.as_bytes(),
+        script.as_bytes(),
+    )?;
     is_told(&rt, &answer, "Done", 0, expected.as_bytes());
     Ok(())
 }

@@ -9,7 +9,7 @@ returns-in-Some-Play-clause-exact g c =
     let asked = rw c.in-Some-Play.field-0-is at c.in-Some-Play.ensures in
     subst
     (λ command. IfSome command (λ command. Promised (g.H.Shelf.held c.args.shelf.now) command (λ o.
-        AnswerCause (Rose (g.H.Shelf.fetch_faults c.args.shelf.now (project_name command)) (g.H.Shelf.fetch_faults c.run.new.shelf (project_name command)))
-        (Rose (g.H.Shelf.wants c.args.shelf.now) (g.H.Shelf.wants c.run.new.shelf)) o.ending c.run.result)))
+    AnswerCause (Rose (g.H.Shelf.fetch_faults c.args.shelf.now (project_name command)) (g.H.Shelf.fetch_faults c.run.new.shelf (project_name command)))
+    (Rose (g.H.Shelf.wants c.args.shelf.now) (g.H.Shelf.wants c.run.new.shelf)) o.ending c.run.result)))
     asked
     c.run.ensures.exact
