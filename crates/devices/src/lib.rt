@@ -1,0 +1,14 @@
+//! The devices of a run: the clock and the timer, the keys, the mouse, questions and bubble timers.
+#![tactic(auto)]
+
+mod keys;
+mod questions;
+mod state;
+mod timers;
+
+pub use script_machine::{BubbleTimer, BubbleTimers, Key, Keys, Question, Questions};
+pub use state::Devices;
+pub use timers::seconds;
+
+#[cfg(test)]
+mod tests;

@@ -1,0 +1,7 @@
+pub mod Again
+pub mod Cast
+pub mod Layering
+pub mod Moves
+pub mod Places
+pub mod Recording
+pub mod Same

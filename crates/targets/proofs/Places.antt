@@ -1,0 +1,47 @@
+-- The first element that passes a test, and one element changed there.
+use Rattle.std.proofs.Common.{◌≡◌, ℕ, ◌<◌, ◌≤◌, List, length, get_or, set, Some, None, Bool, cond, inl, inr, ap, ap₂, ◌∙◌, arith}
+use Rattle.std.proofs.lemmas.List.{length-set}
+use Rattle.std.specs.Prelude.{nat_lt}
+use Rattle.std.specs.List.{position, position_or_len, find, slice_get}
+use Rattle.std.proofs.lemmas.List.Quantifiers.{position-Some}
+use Rattle.std.proofs.lemmas.List.Sums.{position_or_len_is}
+use Rattle.std.proofs.lemmas.List.Folds.{find_at, position_or_len-set}
+use Rattle.std.proofs.lemmas.Option.{slice_get-get_or, slice_get_past}
+use Rattle.std.proofs.lemmas.Bool.{cases_Bool}
+use Rattle.std.proofs.lemmas.Bool.Decides.{nat_tests}
+use Rattle.script_machine.specs.Lists.{first_changed, changed_at_some, set_some}
+
+pub position_is : {X : Type 0} (p : X → Bool) (xs : List X) (i : ℕ) (d : X) → position p xs ≡ Some i → (position_or_len p xs ≡ i) × (i < length xs)
+position_is p xs i d e =
+    let at = position-Some p xs i d e in
+    (position_or_len_is p xs i d (omega arith) at.2 (λ _. at.1), at.0)
+
+pub position_at : {X : Type 0} (p : X → Bool) (xs : List X) (i : ℕ) → position_or_len p xs ≡ i → i < length xs → position p xs ≡ Some i
+position_at p xs i e lt = grind (arith, nat_tests)
+
+-- the element at the first place that passes is the one that is found
+pub find_is : {X : Type 0} (p : X → Bool) (xs : List X) (i : ℕ) (d : X) → position p xs ≡ Some i → find p xs ≡ Some (get_or xs i d)
+find_is p xs i d e =
+    let at = position_is p xs i d e in
+    find_at p xs ∙ ap (slice_get xs) at.0 ∙ slice_get-get_or xs i d at.1
+
+past : {X : Type 0} (p : X → Bool) (xs : List X) → position p xs ≡ None → length xs ≤ position_or_len p xs
+past p xs e = elim (cases_Bool (nat_lt (position_or_len p xs) (length xs))) [
+  | inl t ↦ absurd (let g = rw t at e in cc)
+  | inr f ↦ grind (arith, nat_tests)
+]
+
+-- where no place passes, nothing is found
+pub find_none : {X : Type 0} (p : X → Bool) (xs : List X) → position p xs ≡ None → find p xs ≡ None
+find_none p xs e = find_at p xs ∙ slice_get_past xs (position_or_len p xs) (past p xs e)
+
+-- the first element that passes is changed at its place
+pub first_changed_is : {X : Type 0} (p : X → Bool) (f : X → X) (xs : List X) (i : ℕ) (d : X) → position p xs ≡ Some i → first_changed p f xs ≡ set xs i (f (get_or xs i d))
+first_changed_is p f xs i d e =
+    let at = position_is p xs i d e in
+    ap (λ o. changed_at_some f o xs) e ∙ ap (λ o. set_some o f i xs) (slice_get-get_or xs i d at.1)
+
+-- an element is put in place of one that passes where it does
+pub position-set : {X : Type 0} (p : X → Bool) (xs : List X) (i : ℕ) (y d : X) → p y ≡ p (get_or xs i d) → position p (set xs i y) ≡ position p xs
+position-set p xs i y d e =
+    ap₂ (λ k n. cond (nat_lt k n) (Some k) None) (position_or_len-set p xs i y d e) (length-set xs i y)

@@ -1,0 +1,11 @@
+use Rattle.std.proofs.Common.{◌≡◌, set, sym, ap, ◌∙◌, arith}
+use Rattle.std.proofs.lemmas.List.Edits.{map_over_more}
+use Rattle.script_machine.specs.declared.instance.Instance.{Instance}
+use Rattle.script_machine.specs.Stopping.{cleared}
+use Rattle.targets.proofs.changes.clear_all.Goals as goal
+
+pub loop-place-preserved : goal.loop-place-preserved
+loop-place-preserved c =
+    ap (λ (x : Instance). set c.loop-place.instances c.loop-place.place x) c.clear.ensures
+    ∙ ap (λ (x : Instance). set c.loop-place.instances c.loop-place.place (cleared x)) (sym c.index-instances-place.is)
+    ∙ map_over_more cleared c.args.instances.now c.loop-place.instances c.loop-place.place c.index-instances-place.result c.loop-place-test.true c.loop-place.invariant c.index-instances-place.is

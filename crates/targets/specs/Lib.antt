@@ -1,0 +1,6 @@
+pub mod Changes
+pub mod Clones
+pub mod Edges
+pub mod First
+pub mod Layers
+pub mod Live

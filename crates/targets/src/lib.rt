@@ -1,0 +1,20 @@
+//! The instances of a run, originals and clones of the targets of the file, in executable order.
+#![tactic(auto)]
+
+mod changes;
+mod clones;
+mod edges;
+mod first;
+mod layers;
+mod order;
+mod state;
+
+pub use layers::Place;
+pub use order::Ids;
+pub use script_machine::{
+    Bubble, BubbleText, Edges, Effect, Effects, Instance, InstanceId, Say, Style, TargetId,
+};
+pub use state::Targets;
+
+#[cfg(test)]
+mod tests;

@@ -1,0 +1,4 @@
+pub mod Distinct
+pub mod First
+pub mod Held
+pub mod Shown

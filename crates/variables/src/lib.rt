@@ -1,0 +1,14 @@
+//! The variables and lists of a run by instance, and its monitors.
+#![tactic(auto)]
+
+mod first;
+mod items;
+mod monitors;
+mod state;
+mod store;
+
+pub use script_machine::{Made, MadeList, Shown, Store, Stores};
+pub use state::{Truths, Variables};
+
+#[cfg(test)]
+mod tests;
