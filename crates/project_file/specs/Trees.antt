@@ -1,4 +1,6 @@
 -- The scripts and expressions at the blocks of a target, and the program of a project.
+pub use Rattle.project_file.specs.declared.blocks.Operand.{Operand}
+pub use Rattle.project_file.specs.declared.blocks.Operand.TheVariants.{Literal as Holds, Variable as OfVariable, List as OfList, Block as OfBlock}
 use Rattle.std.specs.Prelude.{ℕ, zero, suc, ◌||◌, Bool, true, false, if◌then◌else◌, List, [], ◌∷◌, length, map, filter, slice_get, bytes_eq, unwrap_or, Option, None, Some}
 use Rattle.std.specs.List.{enumerate_from, filter_map}
 use Rattle.opcode_table.specs.declared.opcode.Opcode.{Opcode}
@@ -27,14 +29,7 @@ pub record Sheet : Type 0 where
 abbrev pub named_ref : Sheet → ℕ → (in_input : Bool) → List ℕ → VarRef
 named_ref sheet k in_input part = unwrap_or (ref_at sheet.refs k in_input part) (Own 0)
 
--- What a block's inputs hold
-
--- what is evaluated: a value, a variable, a list's contents, or the block that is plugged in
-pub data Operand : Type 0 where
-  Holds : (value : Value) → Operand
-  OfVariable : (ref : VarRef) → Operand
-  OfList : (ref : VarRef) → Operand
-  OfBlock : (number : ℕ) → Operand
+-- What a block's inputs hold: a value, a variable, a list's contents, or the block that is plugged in
 
 -- branches and the custom block are not evaluated
 abbrev pub is_apart : List ℕ → Bool

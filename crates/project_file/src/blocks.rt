@@ -36,6 +36,19 @@ pub enum Input {
     Absent,
 }
 
+/// What is evaluated for an input of a block.
+#[derive(Debug, Drop)]
+pub enum Operand {
+    /// A value.
+    Literal(Value),
+    /// The value of a variable.
+    Variable(VarRef),
+    /// The contents of a list.
+    List(VarRef),
+    /// The value of the block that is plugged in.
+    Block(BlockId),
+}
+
 /// The inputs of a block, each with its name, in document order.
 pub type Inputs = ListOf<(Text, Input)>;
 

@@ -7,7 +7,9 @@ mod laws;
 mod refusals;
 mod values;
 
-pub use blocks::{Block, Blocks, Code, Fields, Input, Inputs, Link, Mutation, Prototype, Resolved};
+pub use blocks::{
+    Block, Blocks, Code, Fields, Input, Inputs, Link, Mutation, Operand, Prototype, Resolved,
+};
 pub use laws::{
     a_file_has_one_answer, a_link_has_one_script, a_link_of_ranked_blocks_has_its_script,
     a_script_unrolls, an_expression_unrolls,

@@ -47,9 +47,9 @@ repeat_row (Whole (negsuc n)) s = only Fresh Next s
 
 -- first the clock and the duration are kept, with a redraw request; later it yields while less time has gone by
 abbrev pub wait_row : Context → Num → Scene → Row Scene
-wait_row (Wait start duration) n s =
-    if less (elapsed start s.devices) duration then only (Wait start duration) Yield s else only Fresh Next s
-wait_row _ n s = record { parts = s; context = Wait s.devices.clock (from_zero n); control = Yield; redraw = true }
+wait_row (Wait k) n s =
+    if less (elapsed k.start s.devices) k.duration then only (Wait k) Yield s else only Fresh Next s
+wait_row _ n s = record { parts = s; context = Wait (record { start = s.devices.clock; duration = from_zero n }); control = Yield; redraw = true }
 
 -- Stopping, clones, broadcasts
 

@@ -54,8 +54,8 @@ KeepsAgain k _ = ⊥
 
 -- a statement that was executed keeps this
 abbrev pub Keeps : (clock : ℕ) → Kind → Context → Type 0
-Keeps clock k (Wait start duration) = (k ≡ Waits) × (start ≤ clock) × (less duration zero_number ≡ false)
-Keeps clock k (Glide start duration x0 y0 x1 y1) = (k ≡ Glides) × (start ≤ clock) × (less zero_number duration ≡ true)
+Keeps clock k (Wait c) = (k ≡ Waits) × (c.start ≤ clock) × (less c.duration zero_number ≡ false)
+Keeps clock k (Glide c) = (k ≡ Glides) × (c.start ≤ clock) × (less zero_number c.duration ≡ true)
 Keeps clock k (Started serials) = (k ≡ Starts) × (0 < length serials)
 Keeps clock k Asked = k ≡ Asks
 Keeps clock k Spoken = k ≡ Speaks

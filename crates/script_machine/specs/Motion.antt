@@ -12,7 +12,7 @@ use Rattle.scratch_values.specs.Named.{Arguments}
 use Rattle.script_machine.specs.Outcome.{Outcome, Goes, then_do}
 use Rattle.script_machine.specs.Words.{Words, Drawn, undrawn, draw}
 use Rattle.script_machine.specs.Program.{Records, Style, AllAround, LeftRight, DontRotate}
-use Rattle.script_machine.specs.Threads.{Context, Fresh, Glide, Control, Next, Yield}
+use Rattle.script_machine.specs.Threads.{GlideState, Context, Fresh, Glide, Control, Next, Yield}
 use Rattle.script_machine.specs.Stores.{Instance, Devices, instance_at, on_instance, is_on_stage, elapsed, less}
 use Rattle.script_machine.specs.View.{Row, number_at, text_at, field_at}
 use Rattle.script_machine.specs.Parts.{MotionParts}
@@ -98,15 +98,25 @@ with_words w p = record p { words = w }
 abbrev pub part_way : Num → Point → Point → Point
 part_way part from to = record { x = add from.x (mul part (sub to.x from.x)); y = add from.y (mul part (sub to.y from.y)) }
 
+-- the ends of a glide, and the glide that begins at an instance
+abbrev pub from_point : GlideState → Point
+from_point k = record { x = k.x0; y = k.y0 }
+
+abbrev pub to_point : GlideState → Point
+to_point k = record { x = k.x1; y = k.y1 }
+
+abbrev pub glide_from : Devices → Num → Instance → Point → GlideState
+glide_from d secs i end = record { start = d.clock; duration = secs; x0 = i.x; y0 = i.y; x1 = end.x; y1 = end.y }
+
 -- a glide: first it keeps the clock and both ends, later it is where the clock says; the end that was kept counts
 abbrev pub glide : Devices → Num → Point → Context → ℕ → MotionParts → Row MotionParts
-glide d secs end (Glide start duration x0 y0 x1 y1) here p =
-    if less (elapsed start d) duration
-    then moved Yield (Glide start duration x0 y0 x1 y1) (at_point (part_way (div (elapsed start d) duration) (record { x = x0; y = y0 }) (record { x = x1; y = y1 }))) here p
-    else moved Next Fresh (at_point (record { x = x1; y = y1 })) here p
+glide d secs end (Glide k) here p =
+    if less (elapsed k.start d) k.duration
+    then moved Yield (Glide k) (at_point (part_way (div (elapsed k.start d) k.duration) (from_point k) (to_point k))) here p
+    else moved Next Fresh (at_point (to_point k)) here p
 glide d secs end c here p =
     if less zero_number secs
-    then unmoved Yield (Glide d.clock secs (instance_at here p.targets).x (instance_at here p.targets).y end.x end.y) p
+    then unmoved Yield (Glide (glide_from d secs (instance_at here p.targets) end)) p
     else moved Next Fresh (at_point end) here p
 
 abbrev pub glide_to : Devices → Num → Option Point → Context → ℕ → MotionParts → Row MotionParts

@@ -1,6 +1,8 @@
 -- What a statement keeps, what it does with its thread, how a thread stands, and how others see it.
 pub use Rattle.script_machine.specs.declared.threads.Count.{Count}
 pub use Rattle.script_machine.specs.declared.threads.Count.TheVariants.{Whole, Infinite}
+pub use Rattle.script_machine.specs.declared.threads.WaitState.{WaitState}
+pub use Rattle.script_machine.specs.declared.threads.GlideState.{GlideState}
 pub use Rattle.script_machine.specs.declared.threads.Context.{Context}
 pub use Rattle.script_machine.specs.declared.threads.Context.TheVariants.{Fresh, Repeat, Wait, Glide, Started, Asked, Spoken, Called}
 pub use Rattle.script_machine.specs.declared.threads.Filter.{Filter}

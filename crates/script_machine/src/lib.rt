@@ -3,6 +3,7 @@
 //! specs/ has one subject a file. docs/profile.md tells the same rules in words, and docs/architecture.md has the map.
 #![tactic(auto)]
 
+mod boxed;
 mod bubble;
 mod devices;
 mod effects;
@@ -14,6 +15,7 @@ mod records;
 mod threads;
 mod variables;
 
+pub use boxed::Boxed;
 pub use bubble::{Bubble, BubbleText, Say};
 pub use devices::{BubbleTimer, BubbleTimers, Key, Keys, Question, Questions};
 pub use effects::{Effect, Effects};
@@ -25,7 +27,9 @@ pub use laws::{
 };
 pub use lines::{Budget, Line, LineRefusal};
 pub use records::{ListRecord, ListRecords, TargetRecord, VariableRecord, VariableRecords};
-pub use threads::{Context, Control, Count, Filter, Report, Serials, Status, Which};
+pub use threads::{
+    Context, Control, Count, Filter, GlideState, Report, Serials, Status, WaitState, Which,
+};
 pub use variables::{Made, MadeList, Shown, Store, Stores};
 
 #[cfg(test)]

@@ -1,5 +1,6 @@
 //! What a statement keeps, what it does with its thread, and how a thread stands.
 
+use crate::boxed::Boxed;
 use crate::ids::{BlockId, InstanceId, Serial};
 use lists::ListOf;
 use project_json::Text;
@@ -16,7 +17,25 @@ pub enum Count {
 /// Numbers of threads.
 pub type Serials = ListOf<Serial>;
 
-/// What a statement keeps from one execution to the next. Clock readings are in milliseconds, durations in seconds.
+/// When a wait began, in milliseconds, and how long it lasts, in seconds.
+#[derive(Clone, Copy, PartialEq, Eq, Debug)]
+pub struct WaitState {
+    pub start: u64,
+    pub duration: Num,
+}
+
+/// When a glide began, in milliseconds, how long it lasts, in seconds, and its two ends.
+#[derive(Clone, Copy, PartialEq, Eq, Debug)]
+pub struct GlideState {
+    pub start: u64,
+    pub duration: Num,
+    pub x0: Num,
+    pub y0: Num,
+    pub x1: Num,
+    pub y1: Num,
+}
+
+/// What a statement keeps from one execution to the next.
 #[derive(Debug, Drop)]
 pub enum Context {
     /// Nothing.
@@ -24,21 +43,11 @@ pub enum Context {
     /// The turns that are left.
     Repeat(Count),
     /// When the wait began, and how long it lasts.
-    Wait {
-        start: u64,
-        duration: Num,
-    },
+    Wait(Boxed<WaitState>),
     /// When the glide began, how long it lasts, and its two ends.
-    Glide {
-        start: u64,
-        duration: Num,
-        x0: Num,
-        y0: Num,
-        x1: Num,
-        y1: Num,
-    },
+    Glide(Boxed<GlideState>),
     /// The threads that it started and waits for.
-    Started(Serials),
+    Started(Boxed<Serials>),
     /// It waits for an answer.
     Asked,
     /// It waits for its bubble's end.
@@ -64,7 +73,10 @@ pub enum Control {
     /// Go on with the next block.
     Next,
     /// Enter a branch, 1 or 2; a loop is executed again behind it.
-    Branch { number: u8, is_loop: bool },
+    Branch {
+        number: u8,
+        is_loop: bool,
+    },
     /// Be executed again in the next pass.
     Yield,
     /// The same, and the thread does not count as running meanwhile.
@@ -72,7 +84,10 @@ pub enum Control {
     /// Wait until a promise ends.
     Promise,
     /// Enter the procedure with this definition.
-    Call { definition: BlockId, params: Params },
+    Call {
+        definition: BlockId,
+        params: Boxed<Params>,
+    },
     /// End the procedure, or the thread where none is open.
     StopThis,
     /// End the other threads of the instance.
@@ -82,9 +97,14 @@ pub enum Control {
     /// Delete the instance, where it is a clone.
     DeleteClone,
     /// Start hats, and wait for their threads or not.
-    Start { hats: Filter, wait: bool },
+    Start {
+        hats: Boxed<Filter>,
+        wait: bool,
+    },
     /// Make a clone of an instance.
-    Clone { of: InstanceId },
+    Clone {
+        of: InstanceId,
+    },
 }
 
 /// How a thread stands (scratch-vm, engine/thread.js).
