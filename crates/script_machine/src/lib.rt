@@ -26,7 +26,9 @@ pub use laws::{
     settling_keeps_what_is_left, slices_are_executions,
 };
 pub use lines::{Budget, Line, LineRefusal};
-pub use records::{ListRecord, ListRecords, TargetRecord, VariableRecord, VariableRecords};
+pub use records::{
+    CostumeNames, ListRecord, ListRecords, TargetRecord, VariableRecord, VariableRecords,
+};
 pub use threads::{
     Context, Control, Count, Filter, GlideState, Report, Serials, Status, WaitState, Which,
 };

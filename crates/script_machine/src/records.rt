@@ -2,9 +2,9 @@
 
 use crate::instance::Style;
 use lists::ListOf;
-use project_json::{Text, Texts};
+use project_json::Text;
 use scratch_number::Num;
-use scratch_values::{Value, Values, VarName};
+use scratch_values::{BoundText, Value, Values, VarName};
 
 /// A variable: its name and id, and its first value.
 #[derive(Debug, Drop)]
@@ -26,6 +26,9 @@ pub type VariableRecords = ListOf<VariableRecord>;
 /// The lists of a target: those of the file in its order, then those that were added at load.
 pub type ListRecords = ListOf<ListRecord>;
 
+/// The names of costumes, in order.
+pub type CostumeNames = ListOf<BoundText>;
+
 /// A target, the stage or a sprite (Scratch 3 project file format). Places are in stage units, the size and the volume
 /// in percent, the direction in degrees; the costume is a place among the costumes, from 0.
 #[derive(Debug, Drop)]
@@ -34,7 +37,7 @@ pub struct TargetRecord {
     pub name: Text,
     pub variables: VariableRecords,
     pub lists: ListRecords,
-    pub costumes: Texts,
+    pub costumes: CostumeNames,
     pub costume: u32,
     pub layer_order: Num,
     pub volume: Num,

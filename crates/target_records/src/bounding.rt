@@ -3,6 +3,7 @@
 ghost use Rattle.std.specs.Prelude.{◌≡◌, ◌<◌, ◌^◌, ◌≤◌, map, length, flat_map, IfOk, IsFalse, codes, ◌∷◌, []};
 ghost use Rattle.std.specs.List.{enumerate_from};
 ghost use Rattle.project_file.specs.FileValues.{value_in};
+ghost use Rattle.scratch_values.specs.Longest.{longest};
 ghost use Rattle.project_file.specs.Limits as limits;
 ghost use Rattle.shapes.specs.Places.{path};
 ghost use Rattle.target_records.specs.Bounds.{Bounds, lengths_in};
@@ -15,9 +16,11 @@ use crate::held_targets::HeldTargets;
 use crate::refusal::RecordRefusal;
 use lists::ListOf;
 use project_file::FileValue;
-use project_json::Text;
-use scratch_values::{LONGEST, Value, Values, VarName};
-use script_machine::{ListRecord, ListRecords, TargetRecord, VariableRecord, VariableRecords};
+use project_json::{Text, Texts};
+use scratch_values::{BoundText, LONGEST, Value, Values, VarName};
+use script_machine::{
+    CostumeNames, ListRecord, ListRecords, TargetRecord, VariableRecord, VariableRecords,
+};
 use shapes::Place;
 use std::alloc::Global;
 
@@ -106,16 +109,31 @@ fn bounded_lists(
     Ok(bounded)
 }
 
-// Whether no name of a costume is too long; the costumes stand at the place.
-fn short_costumes(alloc: Global, place: &Place, costumes: &[Text]) -> Result<(), RecordRefusal>
-    ensures { Bounds (λ _. costumes.now) result costumes.now (flat_map (limits.costume_measures place.now) (enumerate_from 0 costumes.now)) }
+// The name of a costume that stands at the place.
+fn bounded_costume(alloc: Global, place: &Place, name: Text) -> Result<BoundText, RecordRefusal>
+    ensures { Bounds (λ n. n) result name (limits.measure (codes "name" ∷ place.now) (length name) longest ∷ []) }
 {
-    for (i, name) in costumes.iter().enumerate() {
-        if name.as_str().len() > LONGEST {
-            return Err(RecordRefusal::too_many(alloc, &place.item(i).member("name")));
-        }
+    if name.as_str().len() > LONGEST {
+        return Err(RecordRefusal::too_many(alloc, &place.member("name")));
     }
-    Ok(())
+    let bounded = BoundText::from_short(alloc, name)?;
+    Ok(bounded)
+}
+
+// The names of the costumes that stand at the place.
+fn bounded_costumes(
+    alloc: Global,
+    place: &Place,
+    costumes: Texts,
+) -> Result<CostumeNames, RecordRefusal>
+    ensures { Bounds (λ ns. ns) result costumes (flat_map (limits.costume_measures place.now) (enumerate_from 0 costumes)) }
+{
+    let mut bounded = ListOf::new(alloc);
+    for name in costumes.into_vec() {
+        let name = bounded_costume(alloc, &place.item(bounded.len()), name)?;
+        bounded.push(name)?;
+    }
+    Ok(bounded)
 }
 
 // The target that stands at the place.
@@ -145,7 +163,7 @@ fn bounded_target(
     } = target;
     let variables = bounded_variables(alloc, &place.member("variables"), variables)?;
     let lists = bounded_lists(alloc, &place.member("lists"), lists)?;
-    short_costumes(alloc, &place.member("costumes"), costumes.as_slice())?;
+    let costumes = bounded_costumes(alloc, &place.member("costumes"), costumes)?;
     Ok(TargetRecord {
         is_stage,
         name,
