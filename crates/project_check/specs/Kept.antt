@@ -7,11 +7,19 @@ use Rattle.project_file.specs.Linked.{AreRanks}
 use Rattle.project_file.specs.Refusals.{tests, Passes}
 use Rattle.script_machine.specs.Program.{Records}
 use Rattle.linked_blocks.specs.Kept.{Kept}
+use Rattle.cached_blocks.specs.declared.block.CachedBlock.{CachedBlock}
+use Rattle.cached_blocks.specs.Cached.{sheet_with, cached_blocks}
 use Rattle.project_check.specs.Counts.{block_count}
 use Rattle.project_check.specs.Heads.{head_numbers}
 
+-- the blocks of each target as executions need them
+abbrev pub CachesAll : List (List Block) → List (List (List Resolved)) → List (List CachedBlock) → Type 0
+CachesAll tables resolved cached =
+    (t : ℕ) (blocks : List Block) (refs : List (List Resolved)) → slice_get tables t ≡ Some blocks → slice_get resolved t ≡ Some refs
+    → slice_get cached t ≡ Some (cached_blocks (sheet_with blocks refs))
+
 -- Each target has its blocks, with ranks that fall along every link, and what each block names; the blocks pass all tests.
-pub record IsProjectOf (records : Records) (tables : List (List Block)) (kept : List Kept) (resolved : List (List (List Resolved))) (numbers : List (List ℕ)) (total : ℕ) : Type 0 where
+pub record IsProjectOf (records : Records) (tables : List (List Block)) (kept : List Kept) (resolved : List (List (List Resolved))) (cached : List (List CachedBlock)) (numbers : List (List ℕ)) (total : ℕ) : Type 0 where
   pub targets : length records.targets ≡ length tables
   pub few : length tables < 2 ^ 32
   pub tests : All (Passes tables) tests
@@ -19,5 +27,6 @@ pub record IsProjectOf (records : Records) (tables : List (List Block)) (kept : 
   pub ranks : (t : ℕ) (blocks : List Block) (k : Kept) → slice_get tables t ≡ Some blocks → slice_get kept t ≡ Some k → AreRanks blocks k.ranks
   pub names : length resolved ≡ length tables
   pub each : (t : ℕ) (blocks : List Block) (refs : List (List Resolved)) → slice_get tables t ≡ Some blocks → slice_get resolved t ≡ Some refs → length refs ≡ length blocks
+  pub cached : CachesAll tables resolved cached
   pub heads : numbers ≡ map head_numbers tables
   pub count : total ≡ block_count tables

@@ -1,9 +1,11 @@
 //! Loading a project file.
 
 ghost use Rattle.std.specs.Prelude.{◌≡◌, ◌<◌, ◌^◌, length, map, IfOk};
-ghost use Rattle.std.specs.List.{sum_by};
+ghost use Rattle.std.specs.List.{sum_by, All};
 ghost use Rattle.target_records.specs.Records.{records_in};
 ghost use Rattle.name_resolving.specs.Room.{HasRoom};
+ghost use Rattle.cached_blocks.specs.Short.{HaveShortFields};
+ghost use Rattle.project_check.specs.Kept.{CachesAll};
 ghost use Rattle.project_check.specs.Loaded.{IsLinked, Loads, Resolves, of_json, of_fault};
 
 use crate::file::read_file;
@@ -11,6 +13,7 @@ use crate::heads::all_heads;
 use crate::measuring::measure;
 use crate::project::Project;
 use block_table::BlockTable;
+use cached_blocks::{CachedBlocks, cache_blocks};
 use linked_blocks::{BlockLinks, test_blocks};
 use name_resolving::{ResolvedNames, resolve};
 use project_file::Refusal;
@@ -77,12 +80,31 @@ fn names(
     resolve(alloc, records, tables, &checked)
 }
 
+// The blocks of each target as executions need them.
+fn cache_all(
+    alloc: Global,
+    tables: &[BlockTable],
+    names: &ResolvedNames,
+) -> Result<Vec<CachedBlocks>, AllocError>
+    requires short { All HaveShortFields (map (λ t. t.blocks) tables.now) }
+    requires names { length names.now ≡ length tables.now }
+    ensures { IfOk result (λ v. CachesAll (map (λ t. t.blocks) tables.now) names.now v.items) }
+{
+    let mut cached = Vec::new(alloc);
+    for (t, table) in tables.iter().enumerate() {
+        let refs = names.as_slice()[t].as_slice();
+        cached.push(cache_blocks(alloc, table.blocks(), refs)?)?;
+    }
+    Ok(cached)
+}
+
 // The project of records and blocks in which nothing is too many.
 fn linked(alloc: Global, mut records: Records, tables: Vec<BlockTable>) -> Result<Project, Refusal>
     requires targets { length (records_in records).targets ≡ length tables.items }
     requires few { length tables.items < 2 ^ 32 }
     requires room { HasRoom (records_in records) (map (λ t. t.blocks) tables.items) }
     requires count { sum_by (λ t. length t.blocks) tables.items < 2 ^ 32 }
+    requires short { All HaveShortFields (map (λ t. t.blocks) tables.items) }
     ensures { IsLinked (records_in records) (map (λ t. t.blocks) tables.items) result }
 {
     let links = match test_blocks(alloc, &tables) {
@@ -90,6 +112,7 @@ fn linked(alloc: Global, mut records: Records, tables: Vec<BlockTable>) -> Resul
         Err(refusal) => return Err(refusal),
     };
     let names = names(alloc, &mut records, &tables, &links)?;
+    let cached = cache_all(alloc, &tables, &names)?;
     let heads = all_heads(alloc, &tables)?;
     let blocks = count(&tables);
     Ok(Project {
@@ -97,6 +120,7 @@ fn linked(alloc: Global, mut records: Records, tables: Vec<BlockTable>) -> Resul
         tables,
         links,
         names,
+        cached,
         heads,
         blocks,
     })

@@ -9,6 +9,7 @@ ghost use Rattle.project_check.specs.Parts.{is_part};
 use crate::heads::Heads;
 use crate::procedures::definition;
 use block_table::BlockTable;
+use cached_blocks::{CachedBlock, CachedBlocks};
 use linked_blocks::BlockLinks;
 use name_resolving::ResolvedNames;
 use project_file::{Block, Resolved};
@@ -25,9 +26,10 @@ pub struct Project {
     pub(crate) tables: Vec<BlockTable>,
     pub(crate) links: Vec<BlockLinks>,
     pub(crate) names: ResolvedNames,
+    pub(crate) cached: Vec<CachedBlocks>,
     pub(crate) heads: Vec<Heads>,
     pub(crate) blocks: u32,
-    pub ghost kept: { IsProjectOf (records_in records) (map (λ t. t.blocks) tables.items) links.items names heads.items blocks },
+    pub ghost kept: { IsProjectOf (records_in records) (map (λ t. t.blocks) tables.items) links.items names cached.items heads.items blocks },
 }
 
 // Whether it is what this part of a block names.
@@ -60,6 +62,7 @@ impl Project {
     ghost use Rattle.project_file.specs.Linked.{IsClosed, AreRanks};
     ghost use Rattle.project_file.specs.Resolving as told;
     ghost use Rattle.project_file.specs.Trees.{script};
+    ghost use Rattle.cached_blocks.specs.Cached.{cached_blocks};
     ghost use Rattle.script_machine.specs.Program.{procedure};
     ghost use Rattle.project_check.specs.Counts.{block_count};
     ghost use Rattle.project_check.specs.Heads.{head_numbers};
@@ -126,6 +129,16 @@ impl Project {
     {
         let blocks = self.tables[target.0 as usize].blocks();
         &blocks[id.0 as usize]
+    }
+
+    /// A block of a target as executions need it.
+    #[inline]
+    pub fn cached(&self, target: TargetId, id: BlockId) -> &CachedBlock
+        requires held { target < length (tables_of self.now) }
+        requires member { id < length (blocks_at target self.now) }
+        ensures { slice_get (cached_blocks (sheet_at target self.now)) id ≡ Some result.now }
+    {
+        &self.cached[target.0 as usize].as_slice()[id.0 as usize]
     }
 
     /// The rank of a block of a target: it falls along every link, and is below the number of the target's blocks.

@@ -16,13 +16,13 @@ use Rattle.project_file.specs.Unrolling.{IsWithin}
 
 -- Elements of lists
 
-has_first : {A : Type 0} (a b : A) (rest : List A) → a ≡ b → Contains (a ∷ rest) b
+pub has_first : {A : Type 0} (a b : A) (rest : List A) → a ≡ b → Contains (a ∷ rest) b
 has_first a b rest e = (0, omega arith, e)
 
-has_more : {A : Type 0} (a b : A) (rest : List A) → Contains rest b → Contains (a ∷ rest) b
+pub has_more : {A : Type 0} (a b : A) (rest : List A) → Contains rest b → Contains (a ∷ rest) b
 has_more a b rest h = (suc h.0, omega (arith, h.1), h.2)
 
-has_by : {A P : Type 0} (a b : A) (rest : List A) → Contains (a ∷ rest) b → (a ≡ b → P) → (Contains rest b → P) → P
+pub has_by : {A P : Type 0} (a b : A) (rest : List A) → Contains (a ∷ rest) b → (a ≡ b → P) → (Contains rest b → P) → P
 has_by a b rest (zero, l, e) f g = f e
 has_by a b rest (suc k, l, e) f g = g (k, omega (arith, l), e)
 
@@ -54,7 +54,7 @@ operand_leads sheet k false (input.Variable v) name rest xs n j go h = has_by _ 
 operand_leads sheet k false (input.List v) name rest xs n j go h = has_by _ _ rest h (λ e. no_block name n _ j e (λ f. cc)) go
 operand_leads sheet k false input.Absent name rest xs n j go h = go h
 
-operands_lead : (sheet : Sheet) (k : ℕ) (xs : List (List ℕ × Input)) (n : List ℕ) (j : ℕ) → Contains (filter_map (operand sheet k) xs) (n, OfBlock j) → Contains (leads xs) (In n, j)
+pub operands_lead : (sheet : Sheet) (k : ℕ) (xs : List (List ℕ × Input)) (n : List ℕ) (j : ℕ) → Contains (filter_map (operand sheet k) xs) (n, OfBlock j) → Contains (leads xs) (In n, j)
 operands_lead sheet k [] n j h = absurd (omega (arith, h.1))
 operands_lead sheet k ((name, x) ∷ xs) n j h = operand_leads sheet k (is_apart name) x name (filter_map (operand sheet k) xs) xs n j (operands_lead sheet k xs n j) h
 
@@ -76,15 +76,15 @@ branch_leads true (input.Variable v) name rest xs n j go h = has_by _ _ rest h (
 branch_leads true (input.List v) name rest xs n j go h = has_by _ _ rest h (λ e. let q = ap (λ p. p.1) e in cc) go
 branch_leads true input.Absent name rest xs n j go h = has_by _ _ rest h (λ e. let q = ap (λ p. p.1) e in cc) go
 
-branches_lead : (xs : List (List ℕ × Input)) (n : List ℕ) (j : ℕ) → Contains (filter_map branch xs) (n, Some j) → Contains (leads xs) (In n, j)
+pub branches_lead : (xs : List (List ℕ × Input)) (n : List ℕ) (j : ℕ) → Contains (filter_map branch xs) (n, Some j) → Contains (leads xs) (In n, j)
 branches_lead [] n j h = absurd (omega (arith, h.1))
 branches_lead ((name, x) ∷ xs) n j h = branch_leads (is_branch name) x name (filter_map branch xs) xs n j (branches_lead xs n j) h
 
 -- the links of inputs are among those of the block, and so is the next
-inputs_lead : (b : Block) (p : Place × ℕ) → Contains (leads b.inputs) p → Contains (leads_to b) p
+pub inputs_lead : (b : Block) (p : Place × ℕ) → Contains (leads b.inputs) p → Contains (leads_to b) p
 inputs_lead b p h = rw flat_map-append (Contains-append_right (flat_map known_block (next_link b.next)) _ p h)
 
-next_leads : (o : Option Link) (rest : List (Place × Link)) (j : ℕ) → target_of_link o ≡ Some j → Contains (flat_map known_block (next_link o ++ rest)) (Behind, j)
+pub next_leads : (o : Option Link) (rest : List (Place × Link)) (j : ℕ) → target_of_link o ≡ Some j → Contains (flat_map known_block (next_link o ++ rest)) (Behind, j)
 next_leads None rest j e = cc
 next_leads (Some (To i)) rest j e = has_first _ _ _ (let q : i ≡ j = cc in cc)
 next_leads (Some (Unknown id)) rest j e = cc
@@ -141,7 +141,7 @@ unfolding script
 script-none sheet = none_within sheet (length sheet.blocks)
 
 module _ (sheet : Sheet) (ranks : List ℕ) (ranked : AreRanks sheet.blocks ranks) where
-  falls : (k j : ℕ) (b : Block) (p : Place) → slice_get sheet.blocks k ≡ Some b → Contains (leads_to b) (p, j) → slice_index ranks j < slice_index ranks k
+  pub falls : (k j : ℕ) (b : Block) (p : Place) → slice_get sheet.blocks k ≡ Some b → Contains (leads_to b) (p, j) → slice_index ranks j < slice_index ranks k
   falls k j b p h r = ranked.falls k j (record { block = b; place = p; held = h; link = r })
 
   below : (k : ℕ) (b : Block) → slice_get sheet.blocks k ≡ Some b → slice_index ranks k < length sheet.blocks
@@ -178,7 +178,7 @@ module _ (sheet : Sheet) (ranks : List ℕ) (ranked : AreRanks sheet.blocks rank
 
 -- Each link has its tree
 
-held_at : (blocks : List Block) (k : ℕ) → k < length blocks → (b : Block) × (slice_get blocks k ≡ Some b)
+pub held_at : (blocks : List Block) (k : ℕ) → k < length blocks → (b : Block) × (slice_get blocks k ≡ Some b)
 held_at [] k l = absurd (omega (arith, l))
 held_at (b ∷ blocks) zero l = (b, refl)
 held_at (b ∷ blocks) (suc k) l = held_at blocks k (omega (arith, l))
@@ -206,7 +206,7 @@ branches_are sheet [] h = tt
 branches_are sheet ((name, o) ∷ xs) h = (refl, link_is sheet o (λ j e. h name j (has_first _ _ xs (ap (λ p. (name, p)) e))), branches_are sheet xs (λ n j r. h n j (has_more _ _ xs r)))
 
 module _ (sheet : Sheet) (ranks : List ℕ) (ranked : AreRanks sheet.blocks ranks) (closed : IsClosed sheet.blocks) where
-  within : (k j : ℕ) (b : Block) (p : Place) → slice_get sheet.blocks k ≡ Some b → Contains (leads_to b) (p, j) → j < length sheet.blocks
+  pub within : (k j : ℕ) (b : Block) (p : Place) → slice_get sheet.blocks k ≡ Some b → Contains (leads_to b) (p, j) → j < length sheet.blocks
   within k j b p h r = closed k j (record { block = b; place = p; held = h; link = r })
 
   expression_is : (n k : ℕ) → k < length sheet.blocks → slice_index ranks k < n → IsOperand sheet (OfBlock k) (expression sheet k)

@@ -1,8 +1,11 @@
-use Rattle.std.proofs.Common.{◌≡◌, List, ◌++◌, ◌∷◌, [], None, get_or, sym, subst, ap, ◌∙◌}
+use Rattle.std.proofs.Common.{◌<◌, length, arith, ◌≡◌, List, ◌++◌, ◌∷◌, [], None, get_or, sym, subst, ap, ◌∙◌}
 use Rattle.std.specs.Prelude.{◌==◌}
 use Rattle.std.specs.List.{find}
 use Rattle.script_machine.specs.declared.variables.Store.{Store}
 use Rattle.script_machine.specs.Stores.{Variables, store_at}
+use Rattle.std.specs.List.{All}
+use Rattle.std.proofs.lemmas.List.Elements.{All-push}
+use Rattle.variables.specs.Kept.{HasShortLists}
 use Rattle.variables.specs.Distinct.{numbers, IsDistinct}
 use Rattle.variables.proofs.Shapes.{store_at_is}
 use Rattle.variables.proofs.Apart.{IsDistinct-added}
@@ -24,10 +27,22 @@ free c =
     ap (λ (s : Store). find (λ (x : Store). x.of == s.of) c.self.inside.stores.items) (copy_is c)
     ∙ ap (λ (v : Variables). find (λ (x : Store). x.of == c.args.to) v.stores) c.self.view_is ∙ c.requires.to
 
+copy_is_short : (c : goal.In_ok-push) → HasShortLists c.in_ok-copy-in-Some.copy
+copy_is_short c =
+    let within : c.in-Some.place < length c.self.inside.stores.items = omega arith in
+    let P : Store → Type 0 = HasShortLists in
+    subst P (sym c.in_ok-copy-in-Some.ensures) (subst P (sym c.index.ensures) (c.self.invariant.short c.in-Some.place c.index.result.now within))
+
 pub invariant_of-self-2 : goal.invariant_of-self-2
 invariant_of-self-2 c =
     let P : List Store → Type 0 = λ l. IsDistinct (numbers l) in
-    subst P (sym c.in_ok-push.ensures.items) (IsDistinct-added c.self.inside.stores.items c.in_ok-copy-in-Some.copy (free c) c.self.invariant)
+    let Q : List Store → Type 0 = All HasShortLists in
+    record {
+      distinct = subst P (sym c.in_ok-push.ensures.items) (IsDistinct-added c.self.inside.stores.items c.in_ok-copy-in-Some.copy (free c) c.self.invariant.distinct);
+      short = subst Q (sym c.in_ok-push.ensures.items) (All-push HasShortLists c.self.inside.stores.items c.in_ok-copy-in-Some.copy c.self.invariant.short (copy_is_short c));
+      zero_is = c.self.invariant.zero_is;
+      nothing_is = c.self.invariant.nothing_is;
+    }
 
 pub returns-clause-ok : goal.returns-clause-ok
 returns-clause-ok c =

@@ -1,0 +1,4 @@
+mod Steps
+mod Branches
+mod Names
+mod Blocks

@@ -1,0 +1,15 @@
+//! What executions need of the blocks of a target, found once at load: what each input holds, in document order, with
+//! menus as their texts; the fields with the variables and lists that they name; where the links lead.
+#![tactic(auto)]
+
+mod block;
+mod fields;
+mod inputs;
+mod links;
+mod making;
+
+pub use block::{CachedBlock, CachedBlocks, CachedFields, CachedInputs};
+pub use making::cache_blocks;
+
+#[cfg(test)]
+mod tests;

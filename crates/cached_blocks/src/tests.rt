@@ -1,0 +1,1 @@
+//! A menu, a variable, branches and a call are found.
