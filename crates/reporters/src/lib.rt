@@ -1,8 +1,22 @@
-//! What reporters give of their arguments.
+//! What reporters give of their arguments, where their inputs are evaluated (scratch-vm, blocks/scratch3_operators.js,
+//! scratch3_data.js, scratch3_motion.js, scratch3_looks.js, scratch3_sound.js, scratch3_sensing.js,
+//! scratch3_procedures.js).
 #![tactic(auto)]
 
 mod arguments;
+mod contents;
+mod equality;
+mod instances;
+mod keys;
+mod list_items;
 mod mathop;
 mod picking;
+mod properties;
+mod reporting;
+mod rows;
+mod sight;
 mod texts;
 mod written;
+
+pub use reporting::reported;
+pub use sight::Sight;

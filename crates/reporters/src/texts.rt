@@ -1,6 +1,6 @@
 //! Texts that operators make, and their characters.
 
-ghost use Rattle.std.specs.Prelude.{◌≡◌, ◌++◌, ◌<◌, ◌^◌, IfOk, length, chars, pos, slice_get};
+ghost use Rattle.std.specs.Prelude.{◌≡◌, ◌==◌, ◌++◌, ◌<◌, [], ◌^◌, IfOk, length, chars, pos, slice_get};
 ghost use Rattle.scratch_number.specs.Number.{floor_by};
 ghost use Rattle.scratch_values.specs.Index.{place_of, whole_place};
 ghost use Rattle.scratch_values.specs.Comparison.{folded_of};
@@ -54,6 +54,13 @@ fn count(text: &str) -> usize
     text.chars().count()
 }
 
+// Whether a text has one character.
+pub(crate) fn has_one_char(text: &str) -> bool
+    ensures { result ≡ (length (chars text.now) == 1) }
+{
+    count(text) == 1
+}
+
 // How many characters a value's text has.
 pub(crate) fn char_count(value: &Value) -> Num
     ensures { result ≡ whole (pos (length (chars (text_of value.now)))) }
@@ -89,6 +96,14 @@ fn char_at(text: &str, place: Num) -> Option<char>
         Num::NegInf => None,
         Num::Nan => None,
     }
+}
+
+// The empty text. The only error is want of memory.
+pub(crate) fn empty_text(alloc: Global) -> Result<Value, AllocError>
+    ensures { IfOk result (λ v. v ≡ values.Text []) }
+{
+    let text = BoundText::from_short(alloc, Text::new(alloc))?;
+    Ok(Value::Text(text))
 }
 
 // The text of a character, and the empty text of none. The only error is want of memory.

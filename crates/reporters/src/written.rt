@@ -1,7 +1,8 @@
 //! The texts of values, without memory.
 
-ghost use Rattle.std.specs.Prelude.{◌≡◌};
+ghost use Rattle.std.specs.Prelude.{◌≡◌, ◌≤◌, length};
 ghost use Rattle.scratch_number.specs.Text as numbers;
+ghost use Rattle.scratch_values.specs.Longest.{longest};
 ghost use Rattle.scratch_values.specs.Value.{text_of};
 ghost use Rattle.reporters.specs.Written.{text_in};
 
@@ -19,7 +20,8 @@ impl<'v> Written<'v> {
     // The text of a value.
     #[inline]
     pub(crate) fn of(value: &'v Value) -> Written<'v>
-        ensures { text_in result ≡ text_of value.now }
+        ensures text { text_in result ≡ text_of value.now }
+        ensures short { length (text_in result) ≤ longest }
     {
         match value {
             Value::Text(text) => Written::Lent(text.as_str()),
@@ -43,7 +45,8 @@ impl<'v> Written<'v> {
 
 // The text of a number.
 fn digits(number: Num) -> NumText
-    ensures { result ≡ numbers.text_of number }
+    ensures text { result ≡ numbers.text_of number }
+    ensures short { length result ≤ 24 }
 {
     let mut text = NumText::new();
     write_text(number, &mut text);

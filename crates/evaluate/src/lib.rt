@@ -1,0 +1,10 @@
+//! The values of the inputs of a block: each input once, in document order, depth first, with no short circuit (scratch-vm,
+//! engine/execute.js).
+#![tactic(auto)]
+
+mod evaluating;
+mod linked;
+mod view;
+
+pub use evaluating::inputs;
+pub use view::View;
