@@ -1,3 +1,4 @@
 pub mod Parts
 pub mod Short
 pub mod Cached
+pub mod Told
