@@ -24,7 +24,7 @@ use Rattle.cached_blocks.specs.Told.{Tells, IsLower, IsReporter, IsPlugged, IsLi
 -- The block that is cached
 
 cached_from : (sheet : Sheet) (n k : ℕ) (bs : List Block) (c : CachedBlock) → slice_get (map (cached_at sheet) (enumerate_from n bs)) k ≡ Some c
-  → (b : Block) × (slice_get bs k ≡ Some b) × (c ≡ cached_block sheet (n + k) b)
+    → (b : Block) × (slice_get bs k ≡ Some b) × (c ≡ cached_block sheet (n + k) b)
 cached_from sheet n k [] c h = absurd (cc h)
 cached_from sheet n zero (b ∷ bs) c h = (b, refl, let here : cached_block sheet n b ≡ c = cc h in sym here ∙ ap (λ m. cached_block sheet m b) (let e : n ≡ n + 0 = omega arith in e))
 cached_from sheet n (suc k) (b ∷ bs) c h =
@@ -69,7 +69,7 @@ refs_of sheet k [] = refl
 refs_of sheet k (f ∷ fs) = by_ref (refs_of sheet k fs) (ref_at sheet.refs k false f.0) refl
   where
     by_ref : field_variables (map (cached_field sheet.refs k) fs) ≡ refs_from sheet k fs → (o : Option VarRef) → ref_at sheet.refs k false f.0 ≡ o
-      → field_variables (map (cached_field sheet.refs k) (f ∷ fs)) ≡ refs_from sheet k (f ∷ fs)
+        → field_variables (map (cached_field sheet.refs k) (f ∷ fs)) ≡ refs_from sheet k (f ∷ fs)
     by_ref more None e = rw e more
     by_ref more (Some ref) e = rw e (ap (λ rest. (f.0, ref) ∷ rest) more)
 
@@ -135,17 +135,20 @@ pub script-told : ScriptIsTold
 script-told sheet ranks k c ranked closed h =
     let at = held sheet k c h in
     let b = at.0 in
-    subst (λ d. (s : Statement) × (script sheet (Some k) ≡ Then s (script sheet d.next)) × Tells sheet k s d) (sym at.2)
-    (statement sheet k b, script-at sheet ranks ranked k b at.1, record {
-      place = refl;
-      op = refl;
-      code = refl;
-      fields = sym (texts_of sheet.refs k b.fields);
-      refs = sym (refs_of sheet k b.fields);
-      inputs = sym (at_inputs sheet ranks ranked (operands sheet k b));
-      first = branch_is (script sheet) (branch_name 1) (branches b) (script-none sheet);
-      second = branch_is (script sheet) (branch_name 2) (branches b) (script-none sheet);
-    })
+    subst (λ d. (s : Statement) × (script sheet (Some k) ≡ Then s (script sheet d.next)) × Tells sheet k s d) (sym at.2) (
+      statement sheet k b,
+      script-at sheet ranks ranked k b at.1,
+      record {
+        place = refl;
+        op = refl;
+        code = refl;
+        fields = sym (texts_of sheet.refs k b.fields);
+        refs = sym (refs_of sheet k b.fields);
+        inputs = sym (at_inputs sheet ranks ranked (operands sheet k b));
+        first = branch_is (script sheet) (branch_name 1) (branches b) (script-none sheet);
+        second = branch_is (script sheet) (branch_name 2) (branches b) (script-none sheet);
+      },
+    )
 
 pub links-fall : LinksFall
 links-fall sheet ranks k c ranked closed h =
