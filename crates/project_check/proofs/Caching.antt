@@ -1,18 +1,18 @@
--- The blocks of each target as executions need them, one target after another; and texts that are short where nothing is too
--- many.
-use Rattle.std.proofs.Common.{◌≡◌, ℕ, zero, suc, ◌+◌, ◌<◌, ◌≤◌, arith, Bool, true, false, inl, inr, List, [], ◌∷◌, ◌++◌, length, map, get_or, Option, Some, None, refl, sym, ap, ◌∙◌, subst}
-use Rattle.std.specs.Prelude.{slice_get, option_map, flat_map, find, nat_lt}
-use Rattle.std.specs.List.{All, enumerate_from, zip}
+-- The blocks of each target as executions need them, one target after another.
+use Rattle.std.proofs.Common.{◌≡◌, ℕ, zero, suc, ◌+◌, ◌<◌, ◌≤◌, arith, Bool, true, false, ◌⊎◌, inl, inr, List, [], ◌∷◌, ◌++◌, length, map, get_or, Option, Some, None, refl, sym, ap, ◌∙◌, subst}
+use Rattle.std.specs.Prelude.{slice_get}
+use Rattle.std.specs.List.{enumerate_from, slice_index_or}
 use Rattle.std.proofs.lemmas.Bool.{cases_lt}
-use Rattle.std.proofs.lemmas.List.Elements.{All-cons}
+use Rattle.std.proofs.lemmas.List.{length-map}
 use Rattle.std.proofs.lemmas.Option.{slice_get_within}
-use Rattle.scratch_values.specs.Longest.{longest}
-use Rattle.scratch_values.specs.declared.names.VarName.{VarName}
 use Rattle.project_file.specs.declared.blocks.Block.{Block}
 use Rattle.project_file.specs.declared.blocks.Resolved.{Resolved}
 use Rattle.cached_blocks.specs.declared.block.CachedBlock.{CachedBlock}
-use Rattle.cached_blocks.specs.Cached.{sheet_with, cached_blocks}
+use Rattle.cached_blocks.specs.Cached.{sheet_with, cached_at, cached_blocks}
+use Rattle.project_check.specs.declared.project.Project.{Project}
 use Rattle.project_check.specs.Kept.{CachesAll}
+use Rattle.project_check.specs.Loaded.{tables_of, names_of, blocks_at, names_at, sheet_at}
+use Rattle.project_check.proofs.Defining.{held_at}
 
 -- the targets before number n
 pub record CachesUpTo (tables : List (List Block)) (resolved : List (List (List Resolved))) (cached : List (List CachedBlock)) (n : ℕ) : Type 0 where
@@ -37,7 +37,7 @@ module _ {A : Type 0} where
   push-length (a ∷ xs) x = let more = push-length xs x in omega (arith, more)
 
 pub caches-more : (tables : List (List Block)) (resolved : List (List (List Resolved))) (cached : List (List CachedBlock)) (n : ℕ) (blocks : List Block) (refs : List (List Resolved)) (c : List CachedBlock)
-  → CachesUpTo tables resolved cached n → slice_get tables n ≡ Some blocks → slice_get resolved n ≡ Some refs → c ≡ cached_blocks (sheet_with blocks refs) → CachesUpTo tables resolved (cached ++ c ∷ []) (n + 1)
+    → CachesUpTo tables resolved cached n → slice_get tables n ≡ Some blocks → slice_get resolved n ≡ Some refs → c ≡ cached_blocks (sheet_with blocks refs) → CachesUpTo tables resolved (cached ++ c ∷ []) (n + 1)
 caches-more tables resolved cached n blocks refs c so h g e = record {
   count = push-length cached c ∙ ap (λ m. m + 1) so.count;
   each = λ t bs rs l p q. by_place t bs rs (cases_lt t n) l p q;
@@ -57,3 +57,24 @@ caches-more tables resolved cached n blocks refs c so h g e = record {
 
 pub caches-all : (tables : List (List Block)) (resolved : List (List (List Resolved))) (cached : List (List CachedBlock)) (n : ℕ) → n ≡ length tables → CachesUpTo tables resolved cached n → CachesAll tables resolved cached
 caches-all tables resolved cached n e so t blocks refs h g = so.each t blocks refs (subst (λ m. t < m) (sym e) (slice_get_within tables t blocks h)) h g
+
+-- the blocks of a target, as a project keeps them
+pub cached-row : (p : Project) (t : ℕ) → t < length (tables_of p) → slice_get p.cached.items t ≡ Some (cached_blocks (sheet_at t p))
+cached-row p t h = p.kept.caches t (blocks_at t p) (names_at t p) (held_at (tables_of p) t [] h) (held_at (names_of p) t [] (omega (arith, h, p.kept.names)))
+
+row-cached : {A : Type 0} (rows : List (List A)) (t : ℕ) (row lent whole : List A) → slice_get rows t ≡ Some whole → row ≡ slice_index_or rows t row → lent ≡ row → lent ≡ whole
+row-cached [] t row lent whole h e same = absurd (cc h)
+row-cached (x ∷ rows) zero row lent whole h e same = (let held : x ≡ whole = cc h in same ∙ e ∙ held)
+row-cached (x ∷ rows) (suc t) row lent whole h e same = row-cached rows t row lent whole h e same
+
+-- the row that is lent is that of the target
+pub lent-cached : (p : Project) (t : ℕ) (row lent : List CachedBlock) → t < length (tables_of p) → row ≡ slice_index_or p.cached.items t row → lent ≡ row → lent ≡ cached_blocks (sheet_at t p)
+lent-cached p t row lent h e same = row-cached p.cached.items t row lent (cached_blocks (sheet_at t p)) (cached-row p t h) e same
+
+enumerate-length : {A : Type 0} (n : ℕ) (xs : List A) → length (enumerate_from n xs) ≡ length xs
+enumerate-length n [] = refl
+enumerate-length n (x ∷ xs) = ap suc (enumerate-length (n + 1) xs)
+
+-- there are as many as blocks
+pub cached-length : (p : Project) (t : ℕ) → length (cached_blocks (sheet_at t p)) ≡ length (blocks_at t p)
+cached-length p t = length-map (enumerate_from 0 (blocks_at t p)) (cached_at (sheet_at t p)) ∙ enumerate-length 0 (blocks_at t p)

@@ -121,7 +121,7 @@ keeps old new tables links names cached heads total same few passes kept res cac
   ranks = λ t blocks k h g. (zip_at IsKept tables links t blocks k kept h g).ranks;
   names = sym (ap (λ f. length f.what) res.is) ∙ targets-length res.checked 0 tables old;
   each = λ t blocks refs h g. targets-each res.checked 0 tables old t blocks refs h (ap (λ f. slice_get f.what t) res.is ∙ g);
-  cached = caches;
+  caches = caches;
   heads = numbers;
   count = count;
 }
