@@ -1,12 +1,12 @@
 //! Records of what the file has, where nothing of it is too long.
 
 ghost use Rattle.std.specs.Prelude.{◌≡◌, ◌<◌, ◌^◌, ◌≤◌, map, length, flat_map, IfOk, IsFalse, codes, ◌∷◌, []};
-ghost use Rattle.std.specs.List.{enumerate_from};
+ghost use Rattle.std.specs.List.{All, enumerate_from};
 ghost use Rattle.project_file.specs.FileValues.{value_in};
 ghost use Rattle.project_file.specs.Limits as limits;
 ghost use Rattle.shapes.specs.Places.{path};
 ghost use Rattle.target_records.specs.Bounds.{Bounds, lengths_in};
-ghost use Rattle.target_records.specs.Held.{IsSmall};
+ghost use Rattle.target_records.specs.Held.{HasShortLists, IsShort, IsSmall};
 
 use crate::file_targets::{
     FileList, FileLists, FileTarget, FileTargets, FileVariable, FileVariables,
@@ -78,7 +78,8 @@ fn bounded_items(alloc: Global, place: &Place, items: &[FileValue]) -> Result<Va
 
 // A list of the target whose lists stand at the place.
 fn bounded_list(alloc: Global, place: &Place, list: FileList) -> Result<ListRecord, RecordRefusal>
-    ensures { Bounds (λ l. l) result list (limits.list_measures place.now (limits.id_or_none list.name.id, list)) }
+    ensures bounds { Bounds (λ l. l) result list (limits.list_measures place.now (limits.id_or_none list.name.id, list)) }
+    ensures short { IfOk result IsShort }
 {
     let FileList { id, name, items } = list;
     let list = place.member(id.as_str());
@@ -96,7 +97,8 @@ fn bounded_lists(
     place: &Place,
     lists: FileLists,
 ) -> Result<ListRecords, RecordRefusal>
-    ensures { Bounds (λ ls. ls) result lists (flat_map (λ l. limits.list_measures place.now (limits.id_or_none l.name.id, l)) lists) }
+    ensures bounds { Bounds (λ ls. ls) result lists (flat_map (λ l. limits.list_measures place.now (limits.id_or_none l.name.id, l)) lists) }
+    ensures short { IfOk result (All IsShort) }
 {
     let mut bounded = ListOf::new(alloc);
     for list in lists.into_vec() {
@@ -126,6 +128,7 @@ fn bounded_target(
 ) -> Result<TargetRecord, RecordRefusal>
     ensures bounds { Bounds (λ t. t) result target (limits.target_measures place.now target) }
     ensures small { IfOk result IsSmall }
+    ensures short { IfOk result HasShortLists }
 {
     let FileTarget {
         is_stage,

@@ -5,7 +5,7 @@ ghost use Rattle.std.specs.List.{All};
 ghost use Rattle.script_machine.specs.Lists.{changed_at};
 ghost use Rattle.script_machine.specs.Program.{no_target};
 ghost use Rattle.project_file.specs.Resolving.{with_added, OfVariable, OfList};
-ghost use Rattle.target_records.specs.Held.{IsSmall, stage_in};
+ghost use Rattle.target_records.specs.Held.{HasShortLists, IsSmall, stage_in};
 
 use lists::ListOf;
 use scratch_number::of_whole;
@@ -15,7 +15,7 @@ use std::alloc::{AllocError, Global};
 use std::marker::Model;
 
 // Targets in file order, fewer than 2^32, and the place of the stage among them. Each has fewer than 2^32 variables and
-// lists. Contracts see the list of their records.
+// lists, and no list has more than 200,000 items. Contracts see the list of their records.
 #[derive(Debug, Drop)]
 pub(crate) struct HeldTargets {
     targets: Vec<TargetRecord>,
@@ -84,6 +84,7 @@ impl HeldTargets {
     pub(crate) fn new(targets: Vec<TargetRecord>) -> HeldTargets
         requires few { length targets.items < 2 ^ 32 }
         requires small { All IsSmall targets.items }
+        requires short { All HasShortLists targets.items }
         ensures { result ≡ targets.items }
     {
         let stage = stage_of(&targets);
@@ -103,7 +104,8 @@ impl HeldTargets {
     }
 
     pub(crate) fn as_slice(&self) -> &[TargetRecord]
-        ensures { result.now ≡ self.now }
+        ensures value { result.now ≡ self.now }
+        ensures short { All HasShortLists result.now }
     {
         self.targets.as_slice()
     }

@@ -6,8 +6,8 @@ use scratch_values::VarName;
 use script_machine::{TargetId, TargetRecord};
 use std::alloc::AllocError;
 
-/// The targets of a project, in file order, and its monitors. There are fewer than 2^32 targets, and each has fewer than
-/// 2^32 variables and fewer than 2^32 lists. Contracts see them as `records_in`.
+/// The targets of a project, in file order, and its monitors. There are fewer than 2^32 targets, each has fewer than 2^32
+/// variables and fewer than 2^32 lists, and no list has more than 200,000 items. Contracts see them as `records_in`.
 #[derive(Debug, Drop)]
 pub struct Records {
     targets: HeldTargets,
@@ -19,7 +19,8 @@ impl Records {
     ghost use Rattle.script_machine.specs.Lists.{changed_at};
     ghost use Rattle.script_machine.specs.Program.{record_at, stage_number};
     ghost use Rattle.project_file.specs.Resolving.{with_added, OfVariable, OfList};
-    ghost use Rattle.target_records.specs.Held.{IsSmall};
+    ghost use Rattle.std.specs.List.{All};
+    ghost use Rattle.target_records.specs.Held.{HasShortLists, IsSmall};
     ghost use Rattle.target_records.specs.Records.{monitor_in, records_in};
 
     // The records of these targets and monitors.
@@ -52,9 +53,10 @@ impl Records {
         self.targets.get(target.0)
     }
 
-    /// The records of all targets, in file order.
+    /// The records of all targets, in file order, and that no list of theirs has more than 200,000 items.
     pub fn all_targets(&self) -> &[TargetRecord]
-        ensures { result.now ≡ (records_in self.now).targets }
+        ensures all { result.now ≡ (records_in self.now).targets }
+        ensures short { All HasShortLists result.now }
     {
         self.targets.as_slice()
     }

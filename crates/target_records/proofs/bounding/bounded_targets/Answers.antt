@@ -7,7 +7,7 @@ use Rattle.std.proofs.lemmas.Result.{err_from_is_err_and}
 use Rattle.script_machine.specs.declared.records.TargetRecord.{TargetRecord}
 use Rattle.project_file.specs.Limits.{target_measures, target_place, first_too_many}
 use Rattle.std.specs.Prelude.{flat_map}
-use Rattle.target_records.specs.Held.{IsSmall}
+use Rattle.target_records.specs.Held.{IsSmall, HasShortLists}
 use Rattle.target_records.proofs.Counts.{turn_stop, turn_pass, turn_all}
 use Rattle.target_records.proofs.bounding.bounded_targets.Goals as goal
 
@@ -30,4 +30,5 @@ loop-target-preserved c =
           ap (λ k. first_too_many (flat_map (λ (x : ℕ × TargetRecord). target_measures (target_place x.0) x.1) (enumerate_from k (into_iter_items c.next.new.self)))) long
           ∙ turn_pass (λ (x : ℕ × TargetRecord). target_measures (target_place x.0) x.1) (n, c.in-Some.target) (enumerate_from n (into_iter_items c.loop-target.target-iterator)) (enumerate_from (n + 1) (into_iter_items c.next.new.self)) _ none (ap (enumerate_from n) c.in-Some.ensures.steps.0) c.loop-target.invariant.many;
       small = subst (All IsSmall) (sym c.in_ok-push.ensures.items) (All-push IsSmall c.loop-target.bounded.items c.in_ok-target.target c.loop-target.invariant.small c.in_ok-target.ensures.small);
+      short = subst (All HasShortLists) (sym c.in_ok-push.ensures.items) (All-push HasShortLists c.loop-target.bounded.items c.in_ok-target.target c.loop-target.invariant.short c.in_ok-target.ensures.short);
     }

@@ -5,8 +5,8 @@ use Rattle.std.proofs.lemmas.Result.{IfOk-weaker, on_ok_weaker}
 use Rattle.script_machine.specs.declared.records.TargetRecord.{TargetRecord}
 use Rattle.script_machine.specs.Program.{no_target}
 use Rattle.project_file.specs.Resolving.{with_added, OfVariable}
-use Rattle.target_records.specs.Held.{IsSmall}
-use Rattle.target_records.proofs.Held.{held-set, variable_keeps, set-changed, record-at}
+use Rattle.target_records.specs.Held.{IsSmall, HasShortLists}
+use Rattle.target_records.proofs.Held.{held-set, variable_keeps, variable_keeps_short, set-changed, record-at}
 use Rattle.target_records.proofs.held_targets.HeldTargets.add_variable.Goals as goal
 
 pub invariant_of-self : goal.invariant_of-self
@@ -15,8 +15,9 @@ invariant_of-self c =
     let within : c.args.place < length c.self.inside.targets.items = omega (arith, ap length c.self.view_is, c.requires.held) in
     let got : slice_get c.self.inside.targets.items c.args.place ≡ Some old = slice_get-get_or c.self.inside.targets.items c.args.place old within ∙ ap Some (sym c.index_mut.ensures.value) in
     let small : IsSmall old = subst IsSmall (sym c.index_mut.ensures.value) (c.self.invariant.small c.args.place old within) in
+    let short : HasShortLists old = subst HasShortLists (sym c.index_mut.ensures.value) (c.self.invariant.short c.args.place old within) in
     let kept = variable_keeps c.add_variable.result c.in_ok-name.name old c.add_variable.new.target c.add_variable.ensures.added c.add_variable.ensures.err small (omega (arith, ap (λ (t : TargetRecord). length t.variables) (record-at c.self.inside.targets.items c.args.self.now c.args.place old no_target c.self.view_is got), c.requires.room)) in
-    held-set c.self.inside.targets.items c.self.inside.stage c.args.place old c.add_variable.new.target c.self.invariant got kept.0 kept.1
+    held-set c.self.inside.targets.items c.self.inside.stage c.args.place old c.add_variable.new.target c.self.invariant got kept.0 kept.1 (variable_keeps_short c.add_variable.result c.in_ok-name.name old c.add_variable.new.target c.add_variable.ensures.added c.add_variable.ensures.err short)
 
 pub returns-clause-number : goal.returns-clause-number
 returns-clause-number c =
