@@ -1,12 +1,16 @@
 -- Stores that are found by their instance, and one of them changed.
 use Rattle.std.proofs.Common.{◌≡◌, ℕ, zero, suc, List, [], ◌∷◌, length, get_or, set, Option, Some, None, IsSome, Bool, true, false, cond, refl, sym, subst, ap, ◌∙◌, arith}
-use Rattle.std.specs.Prelude.{◌==◌, unwrap_or}
-use Rattle.std.proofs.lemmas.List.{length-set}
+use Rattle.std.specs.Prelude.{◌==◌, unwrap_or, slice_get}
+use Rattle.std.proofs.lemmas.Option.{slice_get_past}
+use Rattle.scratch_values.specs.Casts.{zero_number}
 use Rattle.scratch_values.specs.declared.value.Value.{Value}
+use Rattle.scratch_values.specs.declared.value.Value.TheVariants.{Number}
 use Rattle.std.specs.List.{position, find}
 use Rattle.script_machine.specs.declared.variables.Store.{Store}
-use Rattle.script_machine.specs.Stores.{Variables, store_at, on_store}
-use Rattle.variables.specs.Held.{HasValue, HasItems, HasSameShape}
+use Rattle.script_machine.specs.Stores.{Variables, store_at, on_store, value_in, items_in}
+use Rattle.script_machine.specs.DataRows.{value_set, items_set}
+use Rattle.variables.specs.Held.{HasValue, HasItems, HasSameShape, value_at, items_at}
+use Rattle.variables.specs.Kept.{IsAlike}
 use Rattle.variables.proofs.Places.{find_is, find_none, first_changed_is}
 
 abbrev pub no_store : ℕ → Store
@@ -73,26 +77,55 @@ has-set m (s ∷ ss) zero t d e h =
 has-set m (s ∷ ss) (suc i) t d e h =
     has_behind (s.of == m) s (find (λ s. s.of == m) ss) (find (λ s. s.of == m) (set ss i t)) (has-set m ss i t d e) h
 
--- a store that is changed keeps its instance and its numbers of variables and lists
-pub record KeepsShape (f : Store → Store) : Type 0 where
-  pub of : (s : Store) → (f s).of ≡ s.of
-  pub values : (s : Store) → length (f s).values ≡ length s.values
-  pub lists : (s : Store) → length (f s).lists ≡ length s.lists
-
-shape-set : (f : Store → Store) (vs : Variables) (i : ℕ) (d : Store) → KeepsShape f → HasSameShape vs (record vs { stores = set vs.stores i (f (get_or vs.stores i d)) })
-shape-set f vs i d k = record {
-  stores = λ n h. has-set n vs.stores i (f (get_or vs.stores i d)) d (k.of _) h;
-  values = λ n. same-set n (λ s. length s.values) vs.stores i (f (get_or vs.stores i d)) d (k.of _) (k.values _);
-  lists = λ n. same-set n (λ s. length s.lists) vs.stores i (f (get_or vs.stores i d)) d (k.of _) (k.lists _);
+-- a store alike in place of one
+shape-set : (vs : Variables) (i : ℕ) (t d : Store) → IsAlike (get_or vs.stores i d) t → HasSameShape vs (record vs { stores = set vs.stores i t })
+shape-set vs i t d a = record {
+  stores = λ n h. has-set n vs.stores i t d a.of h;
+  values = λ n. same-set n (λ s. length s.values) vs.stores i t d a.of a.values;
+  lists = λ n. same-set n (λ s. length s.lists) vs.stores i t d a.of a.lists;
 }
 
-pub shape-on_store : (n : ℕ) (f : Store → Store) (vs : Variables) (i : ℕ) (d : Store) → position (λ s. s.of == n) vs.stores ≡ Some i → KeepsShape f → HasSameShape vs (on_store n f vs)
-shape-on_store n f vs i d p k =
-    let P : Variables → Type 0 = HasSameShape vs in
-    subst P (sym (on_store_is n f vs i d p)) (shape-set f vs i d k)
+-- the code's old and new fields, where a store was changed at its place
+pub shape_is : (old vs : Variables) (i : ℕ) (s t : Store) → old ≡ vs → s ≡ get_or old.stores i s → IsAlike s t → HasSameShape vs (record { stores = set old.stores i t; file_monitors = old.file_monitors; made = old.made })
+shape_is old vs i s t e at a =
+    let P : Variables → Type 0 = λ v. HasSameShape v (record { stores = set old.stores i t; file_monitors = old.file_monitors; made = old.made }) in
+    let Q : Store → Type 0 = λ x. IsAlike x t in
+    subst P e (shape-set old i t s (subst Q at a))
 
-pub value_keeps : (k : ℕ) (v : Value) → KeepsShape (λ s. record s { values = set s.values k v })
-value_keeps k v = record { of = λ s. refl; values = λ s. length-set s.values k v; lists = λ s. refl }
+-- the store of an instance, as the code finds it
+pub placed : (n : ℕ) (old vs : Variables) (i : ℕ) (s : Store) → old ≡ vs → position (λ s. s.of == n) vs.stores ≡ Some i → s ≡ get_or old.stores i s → s ≡ store_at n vs.stores
+placed n old vs i s e p at = at ∙ ap (λ (o : Variables). get_or o.stores i s) e ∙ sym (store_at_is n vs.stores i s p)
 
-pub items_keep : (k : ℕ) (items : List Value) → KeepsShape (λ s. record s { lists = set s.lists k items })
-items_keep k items = record { of = λ s. refl; values = λ s. refl; lists = λ s. length-set s.lists k items }
+-- a value, and a list, that is made of what was held
+pub value_changed_is : (n k : ℕ) (g : Value → Value) (old vs : Variables) (i : ℕ) (s t : Store) → old ≡ vs → position (λ s. s.of == n) vs.stores ≡ Some i → s ≡ get_or old.stores i s
+    → t ≡ record s { values = set s.values k (g (value_at k s)) }
+    → ◌≡◌ {A = Variables} (record { stores = set old.stores i t; file_monitors = old.file_monitors; made = old.made }) (value_set n k (g (value_in n k vs)) vs)
+value_changed_is n k g old vs i s t e p at is =
+    changed_is n (λ (x : Store). record x { values = set x.values k (g (value_in n k vs)) }) old vs i s t e p at
+    (is ∙ ap (λ (x : Store). record s { values = set s.values k (g (value_at k x)) }) (placed n old vs i s e p at))
+
+pub list_changed_is : (n k : ℕ) (g : List Value → List Value) (old vs : Variables) (i : ℕ) (s t : Store) → old ≡ vs → position (λ s. s.of == n) vs.stores ≡ Some i → s ≡ get_or old.stores i s
+    → t ≡ record s { lists = set s.lists k (g (items_at k s)) }
+    → ◌≡◌ {A = Variables} (record { stores = set old.stores i t; file_monitors = old.file_monitors; made = old.made }) (items_set n k (g (items_in n k vs)) vs)
+list_changed_is n k g old vs i s t e p at is =
+    changed_is n (λ (x : Store). record x { lists = set x.lists k (g (items_in n k vs)) }) old vs i s t e p at
+    (is ∙ ap (λ (x : Store). record s { lists = set s.lists k (g (items_at k x)) }) (placed n old vs i s e p at))
+
+-- what is read of the store of an instance, and where it has none
+pub value_read : (n k : ℕ) (old vs : Variables) (i : ℕ) (s : Store) (z v : Value) → old ≡ vs → position (λ s. s.of == n) vs.stores ≡ Some i → s ≡ get_or old.stores i s → z ≡ Number zero_number
+    → v ≡ unwrap_or (slice_get s.values k) z → v ≡ value_in n k vs
+value_read n k old vs i s z v e p at to is =
+    is ∙ ap (unwrap_or (slice_get s.values k)) to ∙ ap (value_at k) (placed n old vs i s e p at)
+
+pub value_unread : (n k : ℕ) (vs : Variables) (z : Value) → position (λ s. s.of == n) vs.stores ≡ None → z ≡ Number zero_number → z ≡ value_in n k vs
+value_unread n k vs z p to =
+    to ∙ ap (λ (o : Option Value). unwrap_or o (Number zero_number)) (sym (slice_get_past [] k (omega arith))) ∙ sym (ap (value_at k) (store_at_none n vs.stores p))
+
+pub items_read : (n k : ℕ) (old vs : Variables) (i : ℕ) (s : Store) (z v : List Value) → old ≡ vs → position (λ s. s.of == n) vs.stores ≡ Some i → s ≡ get_or old.stores i s → z ≡ []
+    → v ≡ unwrap_or (slice_get s.lists k) z → v ≡ items_in n k vs
+items_read n k old vs i s z v e p at to is =
+    is ∙ ap (unwrap_or (slice_get s.lists k)) to ∙ ap (items_at k) (placed n old vs i s e p at)
+
+pub items_unread : (n k : ℕ) (vs : Variables) (z : List Value) → position (λ s. s.of == n) vs.stores ≡ None → z ≡ [] → z ≡ items_in n k vs
+items_unread n k vs z p to =
+    to ∙ ap (λ (o : Option (List Value)). unwrap_or o []) (sym (slice_get_past [] k (omega arith))) ∙ sym (ap (items_at k) (store_at_none n vs.stores p))

@@ -1,4 +1,5 @@
 pub mod Distinct
 pub mod First
 pub mod Held
+pub mod Kept
 pub mod Shown

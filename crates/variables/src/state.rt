@@ -7,15 +7,15 @@ ghost use Rattle.scratch_values.specs.declared.index.Index.TheVariants.{At};
 ghost use Rattle.scratch_values.specs.declared.value.Value.TheVariants.{Number};
 ghost use Rattle.script_machine.specs.Lists.{first_removed};
 ghost use Rattle.script_machine.specs.Stores.{store_at, value_in, items_in};
-ghost use Rattle.script_machine.specs.DataRows.{value_set, items_set, added, inserted, deleted, replaced};
+ghost use Rattle.script_machine.specs.DataRows.{value_set, items_set, added, inserted, deleted, replaced, most_items};
 ghost use Rattle.script_machine.specs.Monitors.{monitor_set};
 ghost use Rattle.target_records.specs.Records.{records_in};
 ghost use Rattle.variables.specs.First.{first_variables};
 ghost use Rattle.variables.specs.Held.{HasStore, HasNoStore, HasValue, HasItems, HasSameShape};
 
-use crate::{first, items, monitors, store};
+use crate::{first, monitors, store};
 use lists::ListOf;
-use scratch_number::Num;
+use scratch_number::{Num, of_whole};
 use scratch_values::{Value, Values};
 use script_machine::{InstanceId, MadeList, Shown, Store};
 use std::alloc::{AllocError, Global};
@@ -25,25 +25,31 @@ use target_records::Records;
 /// Truths, in order.
 pub type Truths = ListOf<bool>;
 
-/// The stores by instance, whether each monitor of the file is visible, and the monitors that blocks added. Contracts see
-/// the record of the reference machine.
+/// The stores by instance, whether each monitor of the file is visible, and the monitors that blocks added. No list has
+/// more than 200,000 items. Contracts see the record of the reference machine.
+///
+/// Where an instance has no variable or list of a number, the variable reads as 0 and the list as one of no items, and
+/// changing it changes nothing.
 #[derive(Drop)]
 pub struct Variables {
     alloc: Global,
     stores: Vec<Store>,
     file_monitors: Truths,
     made: MadeList,
+    // What is read where an instance has no such variable or list: 0, and no items.
+    zero: Value,
+    nothing: Values,
 }
 
 impl Model for Variables {
     ghost use Rattle.script_machine.specs.Stores.{Variables as Seen};
-    ghost use Rattle.variables.specs.Distinct.{numbers, IsDistinct};
+    ghost use Rattle.variables.specs.Kept.{IsKept};
 
     ghost Value = { Seen };
 
     ghost view = { λ v. record { stores = v.stores.items; file_monitors = v.file_monitors; made = v.made } };
 
-    ghost invariant = { λ v. IsDistinct (numbers v.stores.items) };
+    ghost invariant = { λ v. IsKept v.stores.items v.zero v.nothing };
 }
 
 impl Variables {
@@ -58,6 +64,8 @@ impl Variables {
             stores,
             file_monitors,
             made: MadeList::new(alloc),
+            zero: Value::Number(of_whole(0)),
+            nothing: Values::new(alloc),
         })
     }
 
@@ -101,85 +109,69 @@ impl Variables {
         }
     }
 
-    /// The value of a variable of an instance, which is there.
+    /// The value of a variable of an instance.
     #[inline]
     pub fn value(&self, of: InstanceId, index: u32) -> &Value
-        requires { HasValue of index self.now }
         ensures { result.now ≡ value_in of index self.now }
     {
         match self.place(of) {
-            Some(place) => store::value(&self.stores[place], index),
-            None => unreachable!(),
+            Some(place) => store::value(&self.stores[place], index, &self.zero),
+            None => &self.zero,
         }
     }
 
-    /// The items of a list of an instance, which is there.
+    /// The items of a list of an instance, of which there are at most 200,000.
     #[inline]
     pub fn items(&self, of: InstanceId, index: u32) -> &Values
-        requires { HasItems of index self.now }
-        ensures { result.now ≡ items_in of index self.now }
+        ensures items { result.now ≡ items_in of index self.now }
+        ensures few { length result.now ≤ most_items }
     {
         match self.place(of) {
-            Some(place) => store::items(&self.stores[place], index),
-            None => unreachable!(),
+            Some(place) => store::items(&self.stores[place], index, &self.nothing),
+            None => &self.nothing,
         }
     }
 
     /// Sets a variable.
     #[inline]
     pub fn set(&mut self, of: InstanceId, index: u32, value: Value)
-        requires { HasValue of index self.old }
         ensures new { self.new ≡ value_set of index value self.old }
         ensures held { HasSameShape self.old self.new }
     {
         match self.place(of) {
             Some(place) => store::set(&mut self.stores[place], index, value),
-            None => unreachable!(),
+            None => {}
         }
     }
 
     /// Raises the number of a variable, and makes it a number.
     #[inline]
     pub fn change(&mut self, of: InstanceId, index: u32, by: Num)
-        requires { HasValue of index self.old }
         ensures new { self.new ≡ value_set of index (Number (sum_of (number_of (value_in of index self.old)) by)) self.old }
         ensures held { HasSameShape self.old self.new }
     {
         match self.place(of) {
             Some(place) => store::raise(&mut self.stores[place], index, by),
-            None => unreachable!(),
-        }
-    }
-
-    // Puts items in place of those of a list, and gives these.
-    fn exchange(&mut self, of: InstanceId, index: u32, new: Values) -> Values
-        requires { HasItems of index self.old }
-        ensures old { result ≡ items_in of index self.old }
-        ensures new { self.new ≡ items_set of index new self.old }
-        ensures held { HasSameShape self.old self.new }
-    {
-        match self.place(of) {
-            Some(place) => store::exchange(&mut self.stores[place], index, new),
-            None => unreachable!(),
+            None => {}
         }
     }
 
     /// Appends an item to a list; at 200,000 items nothing is added. The only error is want of memory, and then nothing
     /// changes.
     pub fn push(&mut self, of: InstanceId, index: u32, item: Value) -> Result<(), AllocError>
-        requires { HasItems of index self.old }
         ensures ok { OnOk result (self.new ≡ items_set of index (added item (items_in of index self.old)) self.old) }
         ensures err { OnErr result (self.new ≡ self.old) }
         ensures held { HasSameShape self.old self.new }
     {
-        let old = self.exchange(of, index, Values::new(self.alloc));
-        let (new, pushed) = items::added(old, item);
-        self.exchange(of, index, new);
-        pushed
+        let alloc = self.alloc;
+        match self.place(of) {
+            Some(place) => store::push(alloc, &mut self.stores[place], index, item),
+            None => Ok(()),
+        }
     }
 
-    /// Inserts an item into a list, at a place from 1 to one behind the last; at 200,000 items the last one is dropped. The
-    /// only error is want of memory, and then nothing changes.
+    /// Inserts an item into a list, at a place from 1; behind the last one it stands at the end, and at 200,000 items the
+    /// last one is dropped. The only error is want of memory, and then nothing changes.
     pub fn insert(
         &mut self,
         of: InstanceId,
@@ -187,52 +179,51 @@ impl Variables {
         at: u32,
         item: Value,
     ) -> Result<(), AllocError>
-        requires held { HasItems of index self.old }
-        requires from { 1 ≤ at }
-        requires within { at ≤ length (items_in of index self.old) + 1 }
         ensures ok { OnOk result (self.new ≡ items_set of index (inserted (At at) item (items_in of index self.old)) self.old) }
         ensures err { OnErr result (self.new ≡ self.old) }
         ensures held { HasSameShape self.old self.new }
     {
-        let old = self.exchange(of, index, Values::new(self.alloc));
-        let (new, pushed) = items::inserted(old, at, item);
-        self.exchange(of, index, new);
-        pushed
+        let alloc = self.alloc;
+        match self.place(of) {
+            Some(place) => store::insert(alloc, &mut self.stores[place], index, at, item),
+            None => Ok(()),
+        }
     }
 
-    /// Puts an item in place of the one at a place of a list, from 1.
+    /// Puts an item in place of the one at a place of a list, from 1; behind the last one nothing changes.
     pub fn replace(&mut self, of: InstanceId, index: u32, at: u32, item: Value)
-        requires held { HasItems of index self.old }
-        requires from { 1 ≤ at }
-        requires within { at ≤ length (items_in of index self.old) }
         ensures new { self.new ≡ items_set of index (replaced (At at) item (items_in of index self.old)) self.old }
         ensures held { HasSameShape self.old self.new }
     {
-        let mut items = self.exchange(of, index, Values::new(self.alloc));
-        items.replace(at as usize - 1, item);
-        self.exchange(of, index, items);
+        let alloc = self.alloc;
+        match self.place(of) {
+            Some(place) => store::replace(alloc, &mut self.stores[place], index, at, item),
+            None => {}
+        }
     }
 
-    /// Deletes the item at a place of a list, from 1.
+    /// Deletes the item at a place of a list, from 1; behind the last one nothing changes.
     pub fn delete(&mut self, of: InstanceId, index: u32, at: u32)
-        requires held { HasItems of index self.old }
-        requires from { 1 ≤ at }
-        requires within { at ≤ length (items_in of index self.old) }
         ensures new { self.new ≡ items_set of index (deleted (At at) (items_in of index self.old)) self.old }
         ensures held { HasSameShape self.old self.new }
     {
-        let old = self.exchange(of, index, Values::new(self.alloc));
-        let new = items::deleted(old, at);
-        self.exchange(of, index, new);
+        let alloc = self.alloc;
+        match self.place(of) {
+            Some(place) => store::delete(alloc, &mut self.stores[place], index, at),
+            None => {}
+        }
     }
 
     /// Deletes all items of a list.
     pub fn clear(&mut self, of: InstanceId, index: u32)
-        requires { HasItems of index self.old }
         ensures new { self.new ≡ items_set of index [] self.old }
         ensures held { HasSameShape self.old self.new }
     {
-        self.exchange(of, index, Values::new(self.alloc));
+        let alloc = self.alloc;
+        match self.place(of) {
+            Some(place) => store::clear(alloc, &mut self.stores[place], index),
+            None => {}
+        }
     }
 
     /// Whether each monitor of the file is visible, in the order of the file.
@@ -256,6 +247,7 @@ impl Variables {
         ensures ok { OnOk result (self.new ≡ monitor_set (records_in records.now) what visible self.old) }
         ensures err { OnErr result (self.new ≡ self.old) }
         ensures stores { self.new.stores ≡ self.old.stores }
+        ensures held { HasSameShape self.old self.new }
     {
         match monitors::of_file(records, &what) {
             Some(place) => {

@@ -1,48 +1,22 @@
-use Rattle.std.proofs.Common.{◌≡◌, ◌<◌, length, get_or, set, sym, subst, ap, ◌∙◌}
-use Rattle.script_machine.specs.declared.variables.Store.{Store}
-use Rattle.script_machine.specs.Stores.{Variables, store_at}
-use Rattle.std.proofs.Common.{ℕ}
-use Rattle.scratch_number.specs.declared.number.Num.{Num}
+use Rattle.std.proofs.Common.{sym, ◌∙◌}
 use Rattle.scratch_number.specs.Arithmetic.{add}
 use Rattle.scratch_values.specs.Casts.{number}
+use Rattle.scratch_values.specs.declared.value.Value.{Value}
 use Rattle.scratch_values.specs.declared.value.Value.TheVariants.{Number}
-use Rattle.script_machine.specs.Stores.{value_in}
-use Rattle.variables.specs.Held.{value_at}
-use Rattle.variables.specs.Held.{HasSameShape}
-use Rattle.variables.proofs.Shapes.{store_at_is, value_is_placed, changed_is, shape-on_store, value_keeps}
-use Rattle.variables.proofs.Apart.{IsDistinct-set}
+use Rattle.variables.proofs.Kept.{kept_is}
+use Rattle.variables.proofs.Shapes.{value_changed_is, shape_is}
 use Rattle.variables.proofs.state.Variables.change.Goals as goal
-
-pub unreachable-requires : goal.unreachable-requires
-unreachable-requires c = value_is_placed c.args.of c.args.index c.args.self.now c.requires (sym c.place.ensures ∙ c.in-None.is)
-
-pub raise-requires : goal.raise-requires
-raise-requires c =
-    let at : c.index_mut.result.now ≡ store_at c.args.of c.args.self.now.stores =
-    c.index_mut.ensures.value ∙ ap (λ (v : Variables). get_or v.stores c.in-Some.place c.index_mut.result.now) c.self.view_is
-    ∙ sym (store_at_is c.args.of c.args.self.now.stores c.in-Some.place c.index_mut.result.now (sym c.place.ensures ∙ c.in-Some.is)) in
-    let P : Store → Type 0 = λ s. c.args.index < length s.values in
-    subst P (sym at) c.requires
 
 pub invariant_of-self : goal.invariant_of-self
 invariant_of-self c =
-    IsDistinct-set c.self.inside.stores.items c.in-Some.place c.raise.new.store c.index_mut.result.now
-    (ap (λ (s : Store). s.of) c.raise.ensures ∙ ap (λ (s : Store). s.of) c.index_mut.ensures.value) c.self.invariant
+    kept_is c.args.of (record { stores = c.self.inside.stores.items; file_monitors = c.self.inside.file_monitors; made = c.self.inside.made }) c.args.self.now c.self.inside.zero c.self.inside.nothing c.in-Some.place c.index_mut.result.now c.raise.new.store
+    c.self.view_is (sym c.place.ensures ∙ c.in-Some.is) c.index_mut.ensures.value c.raise.ensures.alike c.self.invariant
 
-raised_is : (index : ℕ) (by : Num) (s t u : Store) → t ≡ record s { values = set s.values index (Number (add (number (value_at index s)) by)) } → s ≡ u → t ≡ record s { values = set s.values index (Number (add (number (value_at index u)) by)) }
-raised_is index by s t u e is = e ∙ ap (λ (x : Store). record s { values = set s.values index (Number (add (number (value_at index x)) by)) }) is
+pub returns-in-Some-clause-new : goal.returns-in-Some-clause-new
+returns-in-Some-clause-new c =
+    value_changed_is c.args.of c.args.index (λ (v : Value). Number (add (number v) c.args.by)) (record { stores = c.self.inside.stores.items; file_monitors = c.self.inside.file_monitors; made = c.self.inside.made }) c.args.self.now c.in-Some.place c.index_mut.result.now c.raise.new.store
+    c.self.view_is (sym c.place.ensures ∙ c.in-Some.is) c.index_mut.ensures.value c.raise.ensures.new
 
-pub returns-clause-new : goal.returns-clause-new
-returns-clause-new c =
-    changed_is c.args.of (λ (s : Store). record s { values = set s.values c.args.index (Number (add (number (value_in c.args.of c.args.index c.args.self.now)) c.args.by)) }) (record { stores = c.self.inside.stores.items; file_monitors = c.self.inside.file_monitors; made = c.self.inside.made }) c.args.self.now c.in-Some.place c.index_mut.result.now c.raise.new.store
-    c.self.view_is (sym c.place.ensures ∙ c.in-Some.is) c.index_mut.ensures.value (raised_is c.args.index c.args.by _ _ _ c.raise.ensures (c.index_mut.ensures.value ∙ ap (λ (v : Variables). get_or v.stores c.in-Some.place c.index_mut.result.now) c.self.view_is
-    ∙ sym (store_at_is c.args.of c.args.self.now.stores c.in-Some.place c.index_mut.result.now (sym c.place.ensures ∙ c.in-Some.is))))
-
-pub returns-clause-held : goal.returns-clause-held
-returns-clause-held c =
-    let P : Variables → Type 0 = HasSameShape c.args.self.now in
-    subst P
-    (sym (changed_is c.args.of (λ (s : Store). record s { values = set s.values c.args.index (Number (add (number (value_in c.args.of c.args.index c.args.self.now)) c.args.by)) }) (record { stores = c.self.inside.stores.items; file_monitors = c.self.inside.file_monitors; made = c.self.inside.made }) c.args.self.now c.in-Some.place c.index_mut.result.now c.raise.new.store
-    c.self.view_is (sym c.place.ensures ∙ c.in-Some.is) c.index_mut.ensures.value (raised_is c.args.index c.args.by _ _ _ c.raise.ensures (c.index_mut.ensures.value ∙ ap (λ (v : Variables). get_or v.stores c.in-Some.place c.index_mut.result.now) c.self.view_is
-    ∙ sym (store_at_is c.args.of c.args.self.now.stores c.in-Some.place c.index_mut.result.now (sym c.place.ensures ∙ c.in-Some.is))))))
-    (shape-on_store c.args.of (λ (s : Store). record s { values = set s.values c.args.index (Number (add (number (value_in c.args.of c.args.index c.args.self.now)) c.args.by)) }) c.args.self.now c.in-Some.place c.index_mut.result.now (sym c.place.ensures ∙ c.in-Some.is) (value_keeps c.args.index _))
+pub returns-in-Some-clause-held : goal.returns-in-Some-clause-held
+returns-in-Some-clause-held c =
+    shape_is (record { stores = c.self.inside.stores.items; file_monitors = c.self.inside.file_monitors; made = c.self.inside.made }) c.args.self.now c.in-Some.place c.index_mut.result.now c.raise.new.store c.self.view_is c.index_mut.ensures.value c.raise.ensures.alike

@@ -3,7 +3,11 @@ use Rattle.std.specs.Prelude.{◌==◌}
 use Rattle.std.specs.List.{find}
 use Rattle.script_machine.specs.declared.variables.Store.{Store}
 use Rattle.script_machine.specs.Stores.{Variables, store_at}
+use Rattle.std.specs.List.{All}
+use Rattle.std.proofs.lemmas.List.Elements.{All-push}
+use Rattle.variables.specs.Kept.{HasShortLists}
 use Rattle.variables.specs.Distinct.{numbers, IsDistinct}
+use Rattle.variables.proofs.Kept.{short_is}
 use Rattle.variables.proofs.Shapes.{store_at_is}
 use Rattle.variables.proofs.Apart.{IsDistinct-added}
 use Rattle.variables.proofs.Gone.{store_is_placed, store_at-pushed_other, store_at-pushed}
@@ -24,10 +28,22 @@ free c =
     ap (λ (s : Store). find (λ (x : Store). x.of == s.of) c.self.inside.stores.items) (copy_is c)
     ∙ ap (λ (v : Variables). find (λ (x : Store). x.of == c.args.to) v.stores) c.self.view_is ∙ c.requires.to
 
+copy_is_short : (c : goal.In_ok-push) → HasShortLists c.in_ok-copy-in-Some.copy
+copy_is_short c =
+    let P : Store → Type 0 = HasShortLists in
+    subst P (sym c.in_ok-copy-in-Some.ensures)
+    (short_is c.args.from (record { stores = c.self.inside.stores.items; file_monitors = c.self.inside.file_monitors; made = c.self.inside.made }) c.args.self.now c.self.inside.zero c.self.inside.nothing c.in-Some.place c.index.result.now c.self.view_is (sym c.place.ensures ∙ c.in-Some.is) c.index.ensures c.self.invariant)
+
 pub invariant_of-self-2 : goal.invariant_of-self-2
 invariant_of-self-2 c =
     let P : List Store → Type 0 = λ l. IsDistinct (numbers l) in
-    subst P (sym c.in_ok-push.ensures.items) (IsDistinct-added c.self.inside.stores.items c.in_ok-copy-in-Some.copy (free c) c.self.invariant)
+    let Q : List Store → Type 0 = All HasShortLists in
+    record {
+      distinct = subst P (sym c.in_ok-push.ensures.items) (IsDistinct-added c.self.inside.stores.items c.in_ok-copy-in-Some.copy (free c) c.self.invariant.distinct);
+      short = subst Q (sym c.in_ok-push.ensures.items) (All-push HasShortLists c.self.inside.stores.items c.in_ok-copy-in-Some.copy c.self.invariant.short (copy_is_short c));
+      zero_is = c.self.invariant.zero_is;
+      nothing_is = c.self.invariant.nothing_is;
+    }
 
 pub returns-clause-ok : goal.returns-clause-ok
 returns-clause-ok c =

@@ -1,24 +1,17 @@
-use Rattle.std.proofs.Common.{◌≡◌, ◌<◌, length, get_or, sym, subst, ap, ◌∙◌}
-use Rattle.script_machine.specs.declared.variables.Store.{Store}
-use Rattle.script_machine.specs.Stores.{Variables, store_at}
-use Rattle.variables.specs.Held.{items_at}
-use Rattle.variables.proofs.Shapes.{store_at_is, items_are_placed}
+use Rattle.std.proofs.Common.{length, sym, ap, ◌∙◌, arith}
+use Rattle.variables.proofs.Kept.{short_read, short_is}
+use Rattle.variables.proofs.Shapes.{items_read, items_unread}
 use Rattle.variables.proofs.state.Variables.items.Goals as goal
 
-pub unreachable-requires : goal.unreachable-requires
-unreachable-requires c = items_are_placed c.args.of c.args.index c.args.self.now c.requires (sym c.place.ensures ∙ c.in-None.is)
+pub returns-in-Some-clause-items : goal.returns-in-Some-clause-items
+returns-in-Some-clause-items c =
+    items_read c.args.of c.args.index (record { stores = c.self.inside.stores.items; file_monitors = c.self.inside.file_monitors; made = c.self.inside.made }) c.args.self.now c.in-Some.place c.index.result.now c.self.inside.nothing c.items.result.now
+    c.self.view_is (sym c.place.ensures ∙ c.in-Some.is) c.index.ensures c.self.invariant.nothing_is c.items.ensures
 
-pub items-requires : goal.items-requires
-items-requires c =
-    let at : c.index.result.now ≡ store_at c.args.of c.args.self.now.stores =
-    c.index.ensures ∙ ap (λ (v : Variables). get_or v.stores c.in-Some.place c.index.result.now) c.self.view_is
-    ∙ sym (store_at_is c.args.of c.args.self.now.stores c.in-Some.place c.index.result.now (sym c.place.ensures ∙ c.in-Some.is)) in
-    let P : Store → Type 0 = λ s. c.args.index < length s.lists in
-    subst P (sym at) c.requires
+pub returns-in-Some-clause-few : goal.returns-in-Some-clause-few
+returns-in-Some-clause-few c =
+    let all = short_is c.args.of (record { stores = c.self.inside.stores.items; file_monitors = c.self.inside.file_monitors; made = c.self.inside.made }) c.args.self.now c.self.inside.zero c.self.inside.nothing c.in-Some.place c.index.result.now c.self.view_is (sym c.place.ensures ∙ c.in-Some.is) c.index.ensures c.self.invariant in
+    short_read c.index.result.now c.args.index c.self.inside.nothing c.items.result.now all (omega (arith, ap length c.self.invariant.nothing_is)) c.items.ensures
 
-pub returns : goal.returns
-returns c =
-    let at : c.index.result.now ≡ store_at c.args.of c.args.self.now.stores =
-    c.index.ensures ∙ ap (λ (v : Variables). get_or v.stores c.in-Some.place c.index.result.now) c.self.view_is
-    ∙ sym (store_at_is c.args.of c.args.self.now.stores c.in-Some.place c.index.result.now (sym c.place.ensures ∙ c.in-Some.is)) in
-    c.items.ensures ∙ ap (items_at c.args.index) at
+pub returns-in-None-clause-items : goal.returns-in-None-clause-items
+returns-in-None-clause-items c = items_unread c.args.of c.args.index c.args.self.now c.self.inside.nothing (sym c.place.ensures ∙ c.in-None.is) c.self.invariant.nothing_is

@@ -1,13 +1,16 @@
-use Rattle.std.proofs.Common.{◌≡◌, List, [], ◌∷◌, Bool, map, refl, sym, subst, ap, ap₂, ◌∙◌}
+use Rattle.std.proofs.Common.{rules, ◌≡◌, List, [], ◌∷◌, Bool, map, refl, sym, subst, ap, ap₂, ◌∙◌}
 use Rattle.script_machine.specs.declared.variables.Store.{Store}
 use Rattle.script_machine.specs.declared.variables.Made.{Made}
 use Rattle.script_machine.specs.Program.{Monitor}
 use Rattle.script_machine.specs.Stores.{Variables}
 use Rattle.target_records.specs.declared.monitors.MonitorRecord.{MonitorRecord}
-use Rattle.target_records.specs.Records.{monitor_in, records_in}
+use Rattle.target_records.specs.Records.{monitor_in}
 use Rattle.variables.specs.Distinct.{numbers, IsDistinct}
+use Rattle.std.specs.List.{All}
+use Rattle.variables.specs.Kept.{HasShortLists}
 use Rattle.variables.specs.First.{stores_of}
 use Rattle.variables.proofs.Apart.{IsDistinct-first}
+use Rattle.variables.proofs.Short.{short-first}
 use Rattle.variables.proofs.state.Variables.open.Goals as goal
 
 visible-seen : (ms : List MonitorRecord) → map (λ m. m.visible) ms ≡ map (λ m. m.visible) (map monitor_in ms)
@@ -17,11 +20,17 @@ visible-seen (m ∷ ms) = ap (λ (l : List Bool). m.visible ∷ l) (visible-seen
 pub invariant_of-result : goal.invariant_of-result
 invariant_of-result c =
     let P : List Store → Type 0 = λ l. IsDistinct (numbers l) in
-    subst P (sym c.in_ok-stores.ensures) (IsDistinct-first c.all_targets.result.now)
+    let Q : List Store → Type 0 = All HasShortLists in
+    record {
+      distinct = subst P (sym c.in_ok-stores.ensures) (IsDistinct-first c.all_targets.result.now);
+      short = subst Q (sym c.in_ok-stores.ensures) (short-first c.all_targets.result.now c.all_targets.ensures.short);
+      zero_is = search rules;
+      nothing_is = search rules;
+    }
 
 pub returns : goal.returns
 returns c =
     ap (λ (ms : List Made). let v : Variables = record { stores = c.in_ok-stores.stores.items; file_monitors = c.in_ok-file_monitors.file_monitors; made = ms } in v) c.new.ensures
     ∙ ap₂ (λ (ss : List Store) (ts : List Bool). let v : Variables = record { stores = ss; file_monitors = ts; made = [] } in v)
-    (c.in_ok-stores.ensures ∙ ap stores_of c.all_targets.ensures)
+    (c.in_ok-stores.ensures ∙ ap stores_of c.all_targets.ensures.all)
     (c.in_ok-file_monitors.ensures ∙ visible-seen c.monitors.result.now ∙ ap (λ (l : List Monitor). map (λ m. m.visible) l) c.monitors.ensures)

@@ -1,21 +1,24 @@
-use Rattle.std.proofs.Common.{◌≡◌, List, ap, ◌∙◌}
-use Rattle.std.proofs.lemmas.Result.{on_ok_weaker, on_err_weaker}
+use Rattle.std.proofs.Common.{sym, ◌∙◌}
+use Rattle.std.proofs.Common.{List}
 use Rattle.scratch_values.specs.declared.value.Value.{Value}
 use Rattle.script_machine.specs.DataRows.{added}
-use Rattle.script_machine.specs.Stores.{items_in}
-use Rattle.variables.proofs.Again.{put_again, put_back}
+use Rattle.std.proofs.lemmas.Result.{on_ok_weaker}
+use Rattle.variables.proofs.Kept.{kept_is}
+use Rattle.variables.proofs.Shapes.{list_changed_is, shape_is}
 use Rattle.variables.proofs.state.Variables.push.Goals as goal
 
-pub returns-clause-ok : goal.returns-clause-ok
-returns-clause-ok c =
-    let old = items_in c.args.of c.args.index c.args.self.now in
-    let same : added c.args.item c.exchange-old.result ≡ added c.args.item old = ap (λ (l : List Value). added c.args.item l) c.exchange-old.ensures.old in
-    on_ok_weaker c.added-new.result.1
-    (λ e. put_again c.args.of c.args.index c.new.result c.added-new.result.0 (added c.args.item old) c.args.self.now c.exchange-old.new.self c.exchange-2.new.self c.requires c.exchange-old.ensures.new c.exchange-2.ensures.new (e ∙ same))
-    c.added-new.ensures.ok
+pub invariant_of-self : goal.invariant_of-self
+invariant_of-self c =
+    kept_is c.args.of (record { stores = c.self.inside.stores.items; file_monitors = c.self.inside.file_monitors; made = c.self.inside.made }) c.args.self.now c.self.inside.zero c.self.inside.nothing c.in-Some.place c.index_mut.result.now c.push.new.store
+    c.self.view_is (sym c.place.ensures ∙ c.in-Some.is) c.index_mut.ensures.value c.push.ensures.alike c.self.invariant
 
-pub returns-clause-err : goal.returns-clause-err
-returns-clause-err c =
-    on_err_weaker c.added-new.result.1
-    (λ e. put_back c.args.of c.args.index c.new.result c.added-new.result.0 c.args.self.now c.exchange-old.new.self c.exchange-2.new.self c.requires c.exchange-old.ensures.new c.exchange-2.ensures.new (e ∙ c.exchange-old.ensures.old))
-    c.added-new.ensures.err
+pub returns-in-Some-clause-ok : goal.returns-in-Some-clause-ok
+returns-in-Some-clause-ok c =
+    on_ok_weaker c.push.result
+    (λ e. list_changed_is c.args.of c.args.index (λ (l : List Value). added c.args.item l) (record { stores = c.self.inside.stores.items; file_monitors = c.self.inside.file_monitors; made = c.self.inside.made }) c.args.self.now c.in-Some.place c.index_mut.result.now c.push.new.store
+    c.self.view_is (sym c.place.ensures ∙ c.in-Some.is) c.index_mut.ensures.value e)
+    c.push.ensures.ok
+
+pub returns-in-Some-clause-held : goal.returns-in-Some-clause-held
+returns-in-Some-clause-held c =
+    shape_is (record { stores = c.self.inside.stores.items; file_monitors = c.self.inside.file_monitors; made = c.self.inside.made }) c.args.self.now c.in-Some.place c.index_mut.result.now c.push.new.store c.self.view_is c.index_mut.ensures.value c.push.ensures.alike

@@ -5,9 +5,9 @@ use Rattle.std.proofs.lemmas.Fn.{filter_same}
 use Rattle.std.proofs.lemmas.Bool.Decides.{nat_tests}
 use Rattle.script_machine.specs.declared.variables.Store.{Store}
 use Rattle.script_machine.specs.Stores.{Variables, store_at}
-use Rattle.variables.specs.Distinct.{numbers, IsDistinct}
-use Rattle.variables.proofs.Apart.{IsDistinct-filter}
+use Rattle.variables.specs.Kept.{IsKept}
 use Rattle.variables.proofs.Gone.{store_at-filtered, kept_twice}
+use Rattle.variables.proofs.Short.{kept-filter}
 use Rattle.variables.proofs.state.Variables.stop_all.Goals as goal
 
 kept : (c : goal.After-retain) → c.retain.new.self.items ≡ filter (λ s. nat_lt s.of c.args.targets) c.self.inside.stores.items
@@ -15,8 +15,8 @@ kept c = filter_same _ (λ s. nat_lt s.of c.args.targets) _ (λ x b f' t. search
 
 pub invariant_of-self : goal.invariant_of-self
 invariant_of-self c =
-    let P : List Store → Type 0 = λ l. IsDistinct (numbers l) in
-    subst P (sym (kept c)) (IsDistinct-filter (λ s. nat_lt s.of c.args.targets) c.self.inside.stores.items c.self.invariant)
+    let P : List Store → Type 0 = λ l. IsKept l c.self.inside.zero c.self.inside.nothing in
+    subst P (sym (kept c)) (kept-filter (λ s. nat_lt s.of c.args.targets) c.self.inside.stores.items c.self.inside.zero c.self.inside.nothing c.self.invariant)
 
 pub returns-clause-new : goal.returns-clause-new
 returns-clause-new c =

@@ -1,24 +1,11 @@
-use Rattle.std.proofs.Common.{◌≡◌, ◌<◌, length, get_or, sym, subst, ap, ◌∙◌}
-use Rattle.script_machine.specs.declared.variables.Store.{Store}
-use Rattle.script_machine.specs.Stores.{Variables, store_at}
-use Rattle.variables.specs.Held.{value_at}
-use Rattle.variables.proofs.Shapes.{store_at_is, value_is_placed}
+use Rattle.std.proofs.Common.{sym, ◌∙◌}
+use Rattle.variables.proofs.Shapes.{value_read, value_unread}
 use Rattle.variables.proofs.state.Variables.value.Goals as goal
 
-pub unreachable-requires : goal.unreachable-requires
-unreachable-requires c = value_is_placed c.args.of c.args.index c.args.self.now c.requires (sym c.place.ensures ∙ c.in-None.is)
+pub returns-in-Some : goal.returns-in-Some
+returns-in-Some c =
+    value_read c.args.of c.args.index (record { stores = c.self.inside.stores.items; file_monitors = c.self.inside.file_monitors; made = c.self.inside.made }) c.args.self.now c.in-Some.place c.index.result.now c.self.inside.zero c.value.result.now
+    c.self.view_is (sym c.place.ensures ∙ c.in-Some.is) c.index.ensures c.self.invariant.zero_is c.value.ensures
 
-pub value-requires : goal.value-requires
-value-requires c =
-    let at : c.index.result.now ≡ store_at c.args.of c.args.self.now.stores =
-    c.index.ensures ∙ ap (λ (v : Variables). get_or v.stores c.in-Some.place c.index.result.now) c.self.view_is
-    ∙ sym (store_at_is c.args.of c.args.self.now.stores c.in-Some.place c.index.result.now (sym c.place.ensures ∙ c.in-Some.is)) in
-    let P : Store → Type 0 = λ s. c.args.index < length s.values in
-    subst P (sym at) c.requires
-
-pub returns : goal.returns
-returns c =
-    let at : c.index.result.now ≡ store_at c.args.of c.args.self.now.stores =
-    c.index.ensures ∙ ap (λ (v : Variables). get_or v.stores c.in-Some.place c.index.result.now) c.self.view_is
-    ∙ sym (store_at_is c.args.of c.args.self.now.stores c.in-Some.place c.index.result.now (sym c.place.ensures ∙ c.in-Some.is)) in
-    c.value.ensures ∙ ap (value_at c.args.index) at
+pub returns-in-None : goal.returns-in-None
+returns-in-None c = value_unread c.args.of c.args.index c.args.self.now c.self.inside.zero (sym c.place.ensures ∙ c.in-None.is) c.self.invariant.zero_is
