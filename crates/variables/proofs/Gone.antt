@@ -1,6 +1,6 @@
 -- Stores that are added or dropped leave those of other instances.
 use Rattle.std.proofs.Common.{◌≡◌, ◌≢◌, ℕ, zero, suc, ◌<◌, List, [], ◌∷◌, ◌++◌, length, get_or, Option, Some, None, Bool, true, false, not, cond, inl, inr, refl, sym, ap, ◌∙◌, arith, subst, IsSome}
-use Rattle.std.specs.Prelude.{◌==◌, unwrap_or, is_some, IsTrue, IsFalse}
+use Rattle.std.specs.Prelude.{◌==◌, unwrap_or, is_some, IsTrue}
 use Rattle.std.specs.List.{position, find, filter, remove}
 use Rattle.std.specs.Option.{option_or}
 use Rattle.std.proofs.lemmas.List.Folds.{find-append}

@@ -4,6 +4,9 @@ use Rattle.std.specs.List.{insert}
 use Rattle.std.proofs.lemmas.List.{take_all, take-append-le, take-take, length-take-le, drop-take}
 use Rattle.std.proofs.lemmas.List.Edits.{length-insert}
 use Rattle.std.proofs.Math.Seq.{take-append-add}
+use Rattle.scratch_values.specs.declared.value.Value.{Value}
+use Rattle.script_machine.specs.DataRows.{most_items}
+use Rattle.variables.specs.Kept.{IsShort}
 
 module _ {X : Type 0} where
   pub push_short : (n : ℕ) (xs : List X) (x : X) → length xs < n → take n (xs ++ x ∷ []) ≡ xs ++ x ∷ []
@@ -31,3 +34,7 @@ module _ {X : Type 0} where
       let before : take p (take (n - 1) xs) ≡ take p xs = take-take p (n - 1) xs (omega arith) in
       let behind : drop p (take (n - 1) xs) ≡ take m (drop p xs) = ap (λ k. drop p (take k xs)) less ∙ drop-take p m xs in
       left ∙ ap₂ (λ (a b : List X). a ++ x ∷ b) (sym before) (sym behind)
+
+-- what was cut has no more than the most
+pub short_when_cut : (xs ys : List Value) → ys ≡ take most_items xs → IsShort ys
+short_when_cut xs ys e = omega (arith, ap length e, length-take most_items xs)

@@ -1,11 +1,11 @@
 -- The first element that passes a test, and one element changed there.
 use Rattle.std.proofs.Common.{◌≡◌, ℕ, ◌+◌, ◌<◌, ◌≤◌, List, [], ◌∷◌, length, map, not, refl, get_or, set, Some, None, Bool, cond, inl, inr, ap, ap₂, ◌∙◌, arith}
-use Rattle.std.proofs.lemmas.List.{length-set, length-map}
+use Rattle.std.proofs.lemmas.List.{length-map}
 use Rattle.std.specs.Prelude.{nat_lt}
 use Rattle.std.specs.List.{position, position_or_len, prefix_len, find, slice_get}
 use Rattle.std.proofs.lemmas.List.Quantifiers.{position-Some}
 use Rattle.std.proofs.lemmas.List.Sums.{position_or_len_is}
-use Rattle.std.proofs.lemmas.List.Folds.{find_at, position_or_len-set}
+use Rattle.std.proofs.lemmas.List.Folds.{find_at}
 use Rattle.std.proofs.lemmas.Option.{slice_get-get_or, slice_get_past}
 use Rattle.std.proofs.lemmas.Bool.{cases_Bool}
 use Rattle.std.proofs.lemmas.Bool.Decides.{nat_tests}
@@ -40,11 +40,6 @@ pub first_changed_is : {X : Type 0} (p : X → Bool) (f : X → X) (xs : List X)
 first_changed_is p f xs i d e =
     let at = position_is p xs i d e in
     ap (λ o. changed_at_some f o xs) e ∙ ap (λ o. set_some o f i xs) (slice_get-get_or xs i d at.1)
-
--- an element is put in place of one that passes where it does
-pub position-set : {X : Type 0} (p : X → Bool) (xs : List X) (i : ℕ) (y d : X) → p y ≡ p (get_or xs i d) → position p (set xs i y) ≡ position p xs
-position-set p xs i y d e =
-    ap₂ (λ k n. cond (nat_lt k n) (Some k) None) (position_or_len-set p xs i y d e) (length-set xs i y)
 
 prefix_len-map : {X Y : Type 0} (p : Y → Bool) (f : X → Y) (xs : List X) → prefix_len p (map f xs) ≡ prefix_len (λ x. p (f x)) xs
 prefix_len-map p f [] = refl

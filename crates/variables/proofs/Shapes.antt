@@ -1,13 +1,14 @@
 -- Stores that are found by their instance, and one of them changed.
 use Rattle.std.proofs.Common.{◌≡◌, ℕ, zero, suc, List, [], ◌∷◌, length, get_or, set, Option, Some, None, IsSome, Bool, true, false, cond, refl, sym, subst, ap, ◌∙◌, arith}
-use Rattle.std.specs.Prelude.{◌==◌, unwrap_or}
-use Rattle.std.proofs.lemmas.List.{set-get_or}
+use Rattle.std.specs.Prelude.{◌==◌, unwrap_or, slice_get}
+use Rattle.std.proofs.lemmas.Option.{slice_get_past}
+use Rattle.scratch_values.specs.Casts.{zero_number}
 use Rattle.scratch_values.specs.declared.value.Value.{Value}
+use Rattle.scratch_values.specs.declared.value.Value.TheVariants.{Number}
 use Rattle.std.specs.List.{position, find}
 use Rattle.script_machine.specs.declared.variables.Store.{Store}
 use Rattle.script_machine.specs.Stores.{Variables, store_at, on_store, value_in, items_in}
 use Rattle.script_machine.specs.DataRows.{value_set, items_set}
-use Rattle.script_machine.specs.Lists.{changed_at_some}
 use Rattle.variables.specs.Held.{HasValue, HasItems, HasSameShape, value_at, items_at}
 use Rattle.variables.specs.Kept.{IsAlike}
 use Rattle.variables.proofs.Places.{find_is, find_none, first_changed_is}
@@ -84,19 +85,12 @@ shape-set vs i t d a = record {
   lists = λ n. same-set n (λ s. length s.lists) vs.stores i t d a.of a.lists;
 }
 
-pub shape-refl : (vs : Variables) → HasSameShape vs vs
-shape-refl vs = record { stores = λ n h. h; values = λ n. refl; lists = λ n. refl }
-
 -- the code's old and new fields, where a store was changed at its place
 pub shape_is : (old vs : Variables) (i : ℕ) (s t : Store) → old ≡ vs → s ≡ get_or old.stores i s → IsAlike s t → HasSameShape vs (record { stores = set old.stores i t; file_monitors = old.file_monitors; made = old.made })
 shape_is old vs i s t e at a =
     let P : Variables → Type 0 = λ v. HasSameShape v (record { stores = set old.stores i t; file_monitors = old.file_monitors; made = old.made }) in
     let Q : Store → Type 0 = λ x. IsAlike x t in
     subst P e (shape-set old i t s (subst Q at a))
-
--- where no store is the instance's, nothing is changed
-pub nowhere_is : (n : ℕ) (f : Store → Store) (vs : Variables) → position (λ s. s.of == n) vs.stores ≡ None → vs ≡ on_store n f vs
-nowhere_is n f vs e = sym (ap (λ o. record vs { stores = changed_at_some f o vs.stores }) e)
 
 -- the store of an instance, as the code finds it
 pub placed : (n : ℕ) (old vs : Variables) (i : ℕ) (s : Store) → old ≡ vs → position (λ s. s.of == n) vs.stores ≡ Some i → s ≡ get_or old.stores i s → s ≡ store_at n vs.stores
@@ -117,9 +111,21 @@ list_changed_is n k g old vs i s t e p at is =
     changed_is n (λ (x : Store). record x { lists = set x.lists k (g (items_in n k vs)) }) old vs i s t e p at
     (is ∙ ap (λ (x : Store). record s { lists = set s.lists k (g (items_at k x)) }) (placed n old vs i s e p at))
 
--- the code's fields as they were, where the store was put back as it was
-pub unchanged_is : (old vs : Variables) (i : ℕ) (s t : Store) → old ≡ vs → s ≡ get_or old.stores i s → t ≡ s
-    → ◌≡◌ {A = Variables} (record { stores = set old.stores i t; file_monitors = old.file_monitors; made = old.made }) vs
-unchanged_is old vs i s t e at is =
-    ap (λ (x : Store). let v : Variables = record { stores = set old.stores i x; file_monitors = old.file_monitors; made = old.made } in v) (is ∙ at)
-    ∙ ap (λ (ss : List Store). let v : Variables = record { stores = ss; file_monitors = old.file_monitors; made = old.made } in v) (set-get_or old.stores i s) ∙ e
+-- what is read of the store of an instance, and where it has none
+pub value_read : (n k : ℕ) (old vs : Variables) (i : ℕ) (s : Store) (z v : Value) → old ≡ vs → position (λ s. s.of == n) vs.stores ≡ Some i → s ≡ get_or old.stores i s → z ≡ Number zero_number
+    → v ≡ unwrap_or (slice_get s.values k) z → v ≡ value_in n k vs
+value_read n k old vs i s z v e p at to is =
+    is ∙ ap (unwrap_or (slice_get s.values k)) to ∙ ap (value_at k) (placed n old vs i s e p at)
+
+pub value_unread : (n k : ℕ) (vs : Variables) (z : Value) → position (λ s. s.of == n) vs.stores ≡ None → z ≡ Number zero_number → z ≡ value_in n k vs
+value_unread n k vs z p to =
+    to ∙ ap (λ (o : Option Value). unwrap_or o (Number zero_number)) (sym (slice_get_past [] k (omega arith))) ∙ sym (ap (value_at k) (store_at_none n vs.stores p))
+
+pub items_read : (n k : ℕ) (old vs : Variables) (i : ℕ) (s : Store) (z v : List Value) → old ≡ vs → position (λ s. s.of == n) vs.stores ≡ Some i → s ≡ get_or old.stores i s → z ≡ []
+    → v ≡ unwrap_or (slice_get s.lists k) z → v ≡ items_in n k vs
+items_read n k old vs i s z v e p at to is =
+    is ∙ ap (unwrap_or (slice_get s.lists k)) to ∙ ap (items_at k) (placed n old vs i s e p at)
+
+pub items_unread : (n k : ℕ) (vs : Variables) (z : List Value) → position (λ s. s.of == n) vs.stores ≡ None → z ≡ [] → z ≡ items_in n k vs
+items_unread n k vs z p to =
+    to ∙ ap (λ (o : Option (List Value)). unwrap_or o []) (sym (slice_get_past [] k (omega arith))) ∙ sym (ap (items_at k) (store_at_none n vs.stores p))

@@ -1,17 +1,15 @@
 -- Stores of which no list is too long.
-use Rattle.std.proofs.Common.{◌≡◌, ℕ, ◌+◌, ◌++◌, ◌∷◌, [], List, map, take, drop, suc, Bool}
+use Rattle.std.proofs.Common.{ℕ, ◌+◌, ◌∷◌, [], List, map, take, drop, suc, Bool}
 use Rattle.std.specs.List.{All, enumerate_from, filter, remove}
-use Rattle.std.proofs.lemmas.List.Elements.{All-nil, All-cons, All-head, All-tail, All-map, All-append, All-take, All-drop, All-push, All-filter}
+use Rattle.std.proofs.lemmas.List.Elements.{All-nil, All-cons, All-head, All-tail, All-map, All-append, All-take, All-drop, All-filter}
 use Rattle.scratch_values.specs.declared.value.Value.{Value}
 use Rattle.script_machine.specs.declared.records.TargetRecord.{TargetRecord}
 use Rattle.script_machine.specs.declared.records.ListRecord.{ListRecord}
 use Rattle.script_machine.specs.declared.variables.Store.{Store}
 use Rattle.script_machine.specs.First.{store}
-use Rattle.script_machine.specs.Stores.{Variables}
 use Rattle.target_records.specs.Held as records
 use Rattle.variables.specs.First.{stores_of}
 use Rattle.variables.specs.Kept.{IsShort, HasShortLists, IsKept}
-use Rattle.variables.specs.Distinct.{numbers, IsDistinct}
 use Rattle.variables.proofs.Apart.{IsDistinct-remove, IsDistinct-filter}
 
 short-from : (k : ℕ) (ts : List TargetRecord) → All records.HasShortLists ts → All HasShortLists (map (λ x. store x.0 x.1) (enumerate_from k ts))

@@ -190,7 +190,7 @@ impl Variables {
         }
     }
 
-    /// Puts an item in place of the one at a place of a list, from 1; where there is none, nothing changes.
+    /// Puts an item in place of the one at a place of a list, from 1; behind the last one nothing changes.
     pub fn replace(&mut self, of: InstanceId, index: u32, at: u32, item: Value)
         ensures new { self.new ≡ items_set of index (replaced (At at) item (items_in of index self.old)) self.old }
         ensures held { HasSameShape self.old self.new }
@@ -202,7 +202,7 @@ impl Variables {
         }
     }
 
-    /// Deletes the item at a place of a list, from 1; where there is none, nothing changes.
+    /// Deletes the item at a place of a list, from 1; behind the last one nothing changes.
     pub fn delete(&mut self, of: InstanceId, index: u32, at: u32)
         ensures new { self.new ≡ items_set of index (deleted (At at) (items_in of index self.old)) self.old }
         ensures held { HasSameShape self.old self.new }
@@ -247,6 +247,7 @@ impl Variables {
         ensures ok { OnOk result (self.new ≡ monitor_set (records_in records.now) what visible self.old) }
         ensures err { OnErr result (self.new ≡ self.old) }
         ensures stores { self.new.stores ≡ self.old.stores }
+        ensures held { HasSameShape self.old self.new }
     {
         match monitors::of_file(records, &what) {
             Some(place) => {

@@ -5,7 +5,9 @@ use project_json::read as read_json;
 use scratch_number::{Num, of_whole};
 use scratch_values::{Value, to_number};
 use script_machine::{InstanceId, TargetId};
+use std::alloc::{AllocError, Global};
 use std::process::Abort;
+use std::test::Fail;
 use target_records::{Records, read};
 
 static PROJECT: &str =
@@ -25,32 +27,23 @@ fn opened(rt: &(impl Abort + AllocGlobal)) -> Variables {
     Variables::open(rt.alloc(), &records(rt)).expect(rt, "memory")
 }
 
-fn number_of(rt: &impl Abort, variables: &Variables, of: InstanceId) -> Num {
-    assert!(rt; variables.has_value(of, 0));
+fn number_of(variables: &Variables, of: InstanceId) -> Num {
     to_number(variables.value(of, 0))
 }
 
-fn length_of(rt: &impl Abort, variables: &Variables) -> usize {
-    assert!(rt; variables.has_items(STAGE, 0));
-    variables.items(STAGE, 0).len()
+fn truths_of(alloc: Global, variables: &Variables) -> Result<Vec<bool>, AllocError> {
+    let mut truths = Vec::new(alloc);
+    for item in variables.items(STAGE, 0) {
+        truths.push(matches!(item, Value::Truth(true)))?;
+    }
+    Ok(truths)
 }
 
-fn insert_first(rt: &impl Abort, variables: &mut Variables) {
-    assert!(rt; variables.has_items(STAGE, 0));
-    let inserted = variables.insert(STAGE, 0, 1, Value::Truth(true));
-    inserted.expect(rt, "memory");
-}
-
-fn replace_first(rt: &impl Abort, variables: &mut Variables) {
-    assert!(rt; variables.has_items(STAGE, 0));
-    assert!(rt; variables.items(STAGE, 0).len() >= 1);
-    variables.replace(STAGE, 0, 1, Value::Truth(false));
-}
-
-fn delete_first(rt: &impl Abort, variables: &mut Variables) {
-    assert!(rt; variables.has_items(STAGE, 0));
-    assert!(rt; variables.items(STAGE, 0).len() >= 1);
-    variables.delete(STAGE, 0, 1);
+fn add_three(rt: &(impl Abort + AllocGlobal), variables: &mut Variables) {
+    for truth in [true, false, false] {
+        let pushed = variables.push(STAGE, 0, Value::Truth(truth));
+        pushed.expect(rt, "memory");
+    }
 }
 
 #[test]
@@ -59,29 +52,41 @@ fn a_variable_is_set_and_changed(rt: HostRuntime) {
     assert!(rt; variables.has_value(STAGE, 0));
     variables.set(STAGE, 0, Value::Number(of_whole(2)));
     variables.change(STAGE, 0, of_whole(3));
-    assert_eq!(rt; number_of(&rt, &variables, STAGE), of_whole(5));
+    assert_eq!(rt; number_of(&variables, STAGE), of_whole(5));
 }
 
 #[test]
-fn a_list_takes_and_loses_items(rt: HostRuntime) {
+fn a_list_takes_and_loses_items(rt: HostRuntime) -> Result<(), Fail> {
     let mut variables = opened(&rt);
     assert!(rt; variables.has_items(STAGE, 0));
-    variables
-        .push(STAGE, 0, Value::Truth(true))
-        .expect(&rt, "memory");
-    assert!(rt; length_of(&rt, &variables) == 1);
-    assert!(rt; variables.has_items(STAGE, 0));
+    add_three(&rt, &mut variables);
+    variables.insert(STAGE, 0, 2, Value::Truth(true))?;
+    variables.replace(STAGE, 0, 4, Value::Truth(true));
+    variables.delete(STAGE, 0, 1);
+    assert_eq!(rt;
+        truths_of(rt.alloc(), &variables)?.as_slice(),
+        [true, false, true].as_slice()
+    );
     variables.clear(STAGE, 0);
-    assert_eq!(rt; length_of(&rt, &variables), 0);
+    assert_eq!(rt; variables.items(STAGE, 0).len(), 0);
+    Ok(())
 }
 
 #[test]
-fn an_item_is_inserted_replaced_and_deleted(rt: HostRuntime) {
+fn what_is_not_held_reads_as_nothing_and_stays_so(rt: HostRuntime) -> Result<(), Fail> {
     let mut variables = opened(&rt);
-    insert_first(&rt, &mut variables);
-    replace_first(&rt, &mut variables);
-    delete_first(&rt, &mut variables);
-    assert_eq!(rt; length_of(&rt, &variables), 0);
+    for of in [STAGE, CLONE] {
+        variables.set(of, 1, Value::Truth(true));
+        variables.change(of, 1, of_whole(3));
+        variables.push(of, 1, Value::Truth(true))?;
+        variables.insert(of, 1, 1, Value::Truth(true))?;
+        variables.replace(of, 1, 1, Value::Truth(true));
+        variables.delete(of, 1, 1);
+        variables.clear(of, 1);
+        assert_eq!(rt; to_number(variables.value(of, 1)), of_whole(0));
+        assert_eq!(rt; variables.items(of, 1).len(), 0);
+    }
+    Ok(())
 }
 
 #[test]
@@ -92,8 +97,8 @@ fn a_clone_has_variables_of_its_own(rt: HostRuntime) {
     variables.copy_for_clone(STAGE, CLONE).expect(&rt, "memory");
     assert!(rt; variables.has_value(CLONE, 0));
     variables.set(CLONE, 0, Value::Number(of_whole(4)));
-    assert_eq!(rt; number_of(&rt, &variables, CLONE), of_whole(4));
-    assert_eq!(rt; number_of(&rt, &variables, STAGE), of_whole(0));
+    assert_eq!(rt; number_of(&variables, CLONE), of_whole(4));
+    assert_eq!(rt; number_of(&variables, STAGE), of_whole(0));
     variables.stop_all(1);
     assert!(rt; !variables.has_value(CLONE, 0));
     variables.drop_instance(STAGE);

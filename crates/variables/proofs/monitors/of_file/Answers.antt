@@ -1,4 +1,4 @@
-use Rattle.std.proofs.Common.{◌≡◌, List, map, sym, ap, ◌∙◌}
+use Rattle.std.proofs.Common.{List, sym, ap, ◌∙◌}
 use Rattle.std.specs.List.{position}
 use Rattle.script_machine.specs.Program.{Monitor}
 use Rattle.script_machine.specs.Monitors.{is_some_same, what_shows}

@@ -1,4 +1,4 @@
-use Rattle.std.proofs.Common.{◌<◌, length, arith, ◌≡◌, List, ◌++◌, ◌∷◌, [], None, get_or, sym, subst, ap, ◌∙◌}
+use Rattle.std.proofs.Common.{◌≡◌, List, ◌++◌, ◌∷◌, [], None, get_or, sym, subst, ap, ◌∙◌}
 use Rattle.std.specs.Prelude.{◌==◌}
 use Rattle.std.specs.List.{find}
 use Rattle.script_machine.specs.declared.variables.Store.{Store}
@@ -7,6 +7,7 @@ use Rattle.std.specs.List.{All}
 use Rattle.std.proofs.lemmas.List.Elements.{All-push}
 use Rattle.variables.specs.Kept.{HasShortLists}
 use Rattle.variables.specs.Distinct.{numbers, IsDistinct}
+use Rattle.variables.proofs.Kept.{short_is}
 use Rattle.variables.proofs.Shapes.{store_at_is}
 use Rattle.variables.proofs.Apart.{IsDistinct-added}
 use Rattle.variables.proofs.Gone.{store_is_placed, store_at-pushed_other, store_at-pushed}
@@ -29,9 +30,9 @@ free c =
 
 copy_is_short : (c : goal.In_ok-push) → HasShortLists c.in_ok-copy-in-Some.copy
 copy_is_short c =
-    let within : c.in-Some.place < length c.self.inside.stores.items = omega arith in
     let P : Store → Type 0 = HasShortLists in
-    subst P (sym c.in_ok-copy-in-Some.ensures) (subst P (sym c.index.ensures) (c.self.invariant.short c.in-Some.place c.index.result.now within))
+    subst P (sym c.in_ok-copy-in-Some.ensures)
+    (short_is c.args.from (record { stores = c.self.inside.stores.items; file_monitors = c.self.inside.file_monitors; made = c.self.inside.made }) c.args.self.now c.self.inside.zero c.self.inside.nothing c.in-Some.place c.index.result.now c.self.view_is (sym c.place.ensures ∙ c.in-Some.is) c.index.ensures c.self.invariant)
 
 pub invariant_of-self-2 : goal.invariant_of-self-2
 invariant_of-self-2 c =

@@ -4,7 +4,7 @@ use Rattle.script_machine.specs.declared.variables.Made.{Made}
 use Rattle.script_machine.specs.Program.{Monitor}
 use Rattle.script_machine.specs.Stores.{Variables}
 use Rattle.target_records.specs.declared.monitors.MonitorRecord.{MonitorRecord}
-use Rattle.target_records.specs.Records.{monitor_in, records_in}
+use Rattle.target_records.specs.Records.{monitor_in}
 use Rattle.variables.specs.Distinct.{numbers, IsDistinct}
 use Rattle.std.specs.List.{All}
 use Rattle.variables.specs.Kept.{HasShortLists}
