@@ -1,0 +1,8 @@
+//! The threads of a run as plain data: which there are, how each stands, and the levels that each has open.
+#![tactic(auto)]
+
+mod level;
+mod stops;
+
+pub use level::Level;
+pub use stops::PushStop;
