@@ -2,7 +2,9 @@
 #![tactic(auto)]
 
 mod level;
+mod levels;
 mod stops;
 
 pub use level::Level;
+pub use levels::Levels;
 pub use stops::PushStop;
