@@ -3,3 +3,6 @@ pub mod Keeping
 pub mod Levels
 pub mod Reading
 pub mod Threads
+pub mod Lending
+pub mod Counting
+pub mod Stops

@@ -4,7 +4,12 @@
 mod level;
 mod levels;
 mod stops;
+mod table;
+mod thread;
+mod threads;
 
 pub use level::Level;
 pub use levels::Levels;
 pub use stops::PushStop;
+pub use thread::Thread;
+pub use threads::Threads;

@@ -1,0 +1,113 @@
+//! One thread.
+
+ghost use Rattle.std.specs.Prelude.{◌≡◌, OnOk, OnErr};
+ghost use Rattle.std.specs.Borrow.{sem};
+ghost use Rattle.thread_frames.specs.Lending.{LendsLevels};
+ghost use Rattle.thread_frames.specs.Threads.{new_thread, again, finish as finished, with_status};
+
+use crate::levels::Levels;
+use script_machine::{BlockId, InstanceId, Serial, Status, TargetId};
+use std::alloc::{AllocError, Global};
+use std::marker::Model;
+
+/// A thread: its number, its instance and the target of that, the block of its hat, how it stands, and its levels
+/// (scratch-vm, engine/thread.js). Contracts see the record of all these.
+#[derive(Debug, Drop)]
+pub struct Thread {
+    serial: Serial,
+    of: InstanceId,
+    target: TargetId,
+    hat: BlockId,
+    status: Status,
+    levels: Levels,
+}
+
+impl Model for Thread {
+    ghost use Rattle.thread_frames.specs.Threads.{Thread as Seen};
+
+    ghost Value = { Seen };
+
+    ghost view = { λ t. record {
+      serial = t.serial;
+      of = t.of;
+      target = t.target;
+      hat = t.hat;
+      status = t.status;
+      levels = t.levels;
+    } };
+}
+
+impl Thread {
+    // A thread that was just started. The only error is want of memory.
+    pub(crate) fn new(
+        alloc: Global,
+        serial: Serial,
+        of: InstanceId,
+        target: TargetId,
+        hat: BlockId,
+        first: Option<BlockId>,
+    ) -> Result<Thread, AllocError>
+        ensures { OnOk result (result ≡ result) }
+    {
+        let mut levels = Levels::new(alloc);
+        levels.push(first, false)?;
+        Ok(Thread {
+            serial,
+            of,
+            target,
+            hat,
+            status: Status::Running,
+            levels,
+        })
+    }
+
+    /// The number of the thread.
+    pub fn serial(&self) -> Serial
+        ensures { result ≡ self.now.serial }
+    {
+        self.serial
+    }
+
+    /// The instance that it runs for.
+    pub fn of(&self) -> InstanceId
+        ensures { result ≡ self.now.of }
+    {
+        self.of
+    }
+
+    /// The target of its instance.
+    pub fn target(&self) -> TargetId
+        ensures { result ≡ self.now.target }
+    {
+        self.target
+    }
+
+    /// The block of the hat that started it.
+    pub fn hat(&self) -> BlockId
+        ensures { result ≡ self.now.hat }
+    {
+        self.hat
+    }
+
+    /// How it stands.
+    pub fn status(&self) -> Status
+        ensures { result ≡ self.now.status }
+    {
+        self.status
+    }
+
+    /// Its levels.
+    pub fn levels(&self) -> &Levels
+        ensures { result.now ≡ self.now.levels }
+    {
+        &self.levels
+    }
+
+    // Its levels, to be changed.
+    pub(crate) fn levels_mut(&mut self) -> &mut Levels
+        ensures* lends { sem 𝓛 (LendsLevels self.entry result) }
+        ensures levels { result.now ≡ self.old.levels }
+    {
+        &mut self.levels
+    }
+}
