@@ -1,6 +1,8 @@
 -- How many levels are open where a thread is changed.
 use Rattle.std.proofs.Common.{◌≡◌, ℕ, ◌+◌, ◌-◌, ◌<◌, ◌≤◌, zero, suc, List, [], ◌∷◌, ◌++◌, length, set, get_or, sym, ap, ◌∙◌, arith, Some, None, Option, slice_get, refl}
-use Rattle.std.specs.Prelude.{sum_by}
+use Rattle.std.specs.Prelude.{sum_by, not}
+use Rattle.std.proofs.lemmas.List.Filters.{sum_by-filter_both}
+use Rattle.script_machine.specs.Threads.{is_done}
 use Rattle.std.proofs.lemmas.List.Sums.{sum_by-set}
 use Rattle.std.proofs.lemmas.Option.{slice_get_within, get_or_from_slice_get}
 use Rattle.script_machine.specs.declared.threads.Which.{Which}
@@ -8,13 +10,17 @@ use Rattle.script_machine.specs.declared.threads.Which.TheVariants.{Slot, Detach
 use Rattle.script_machine.specs.Outcome.{most_levels}
 use Rattle.script_machine.specs.Places.{Places, at_place, put, sum_some}
 use Rattle.thread_frames.specs.declared.level.Level.{Level}
-use Rattle.thread_frames.specs.Levels.{on_top}
-use Rattle.thread_frames.specs.Threads.{Thread}
+use Rattle.thread_frames.specs.Levels.{on_top, without_top}
+use Rattle.thread_frames.specs.Threads.{Thread, without_done}
 use Rattle.thread_frames.specs.Counting.{open_in, IsCount}
 
 pub length-on_top : (f : Level → Level) (ls : List Level) → length (on_top f ls) ≡ length ls
 length-on_top f [] = refl
 length-on_top f (l ∷ ls) = refl
+
+pub length-without_top : (ls : List Level) → length (without_top ls) ≡ length ls - 1
+length-without_top [] = refl
+length-without_top (l ∷ ls) = omega arith
 
 depth : Thread → ℕ
 depth t = length t.levels
@@ -31,19 +37,28 @@ open_in-put Detached t u ts at =
     let e : sum_some (λ x. length x.levels) ts.detached ≡ length t.levels = ap (sum_some (λ x. length x.levels)) at in
     omega (arith, e)
 
--- levels that are the same, changed at the top, or one more, behind the steps of the code
+-- a thread has no more levels than all threads
+pub own_count : (n : ℕ) (which : Which) (t : Thread) (ts : Places Thread) → IsCount n ts → Some t ≡ at_place which ts → length t.levels ≤ n
+own_count n which t ts k at = omega (arith, open_in-put which t (record t { levels = [] }) ts (sym at), k.sum)
 
+-- any change of a thread
+pub put_count : (m n : ℕ) (which : Which) (t u : Thread) (ts : Places Thread) → IsCount n ts → Some t ≡ at_place which ts → m + length t.levels ≡ n + length u.levels → m ≤ 65536 → IsCount m (put which u ts)
+put_count m n which t u ts k at e few = record { sum = omega (arith, open_in-put which t u ts (sym at), k.sum); few = few }
+
+-- no change of the number of its levels
 pub same_count : (n : ℕ) (which : Which) (t u : Thread) (ts : Places Thread) → IsCount n ts → Some t ≡ at_place which ts → length u.levels ≡ length t.levels → IsCount n (put which u ts)
-same_count n which t u ts k at same = record { sum = omega (arith, open_in-put which t u ts (sym at), k.sum); few = k.few }
+same_count n which t u ts k at same = put_count n n which t u ts k at (omega arith) k.few
 
+-- a change of its top level, behind the steps of the code
 pub top_count : (f : Level → Level) (n : ℕ) (which : Which) (t : Thread) (old new : List Level) (ts : Places Thread) → IsCount n ts → Some t ≡ at_place which ts → old ≡ t.levels → new ≡ on_top f old → IsCount n (put which (record t { levels = new }) ts)
 top_count f n which t old new ts k at before after =
     same_count n which t (record t { levels = new }) ts k at (ap length after ∙ length-on_top f old ∙ ap length before)
 
+-- one level more, behind the steps of the code
 pub more_count : (n : ℕ) (which : Which) (t : Thread) (l : Level) (old new : List Level) (ts : Places Thread) → IsCount n ts → Some t ≡ at_place which ts → old ≡ t.levels → new ≡ l ∷ old → n < 65536 → IsCount (n + 1) (put which (record t { levels = new }) ts)
 more_count n which t l old new ts k at before after room =
     let e : length new ≡ length t.levels + 1 = omega (arith, ap length after, ap length before) in
-    record { sum = omega (arith, open_in-put which t (record t { levels = new }) ts (sym at), k.sum); few = omega arith }
+    put_count (n + 1) n which t (record t { levels = new }) ts k at (omega arith) (omega arith)
 
 -- a thread put in its own place
 set_same : (xs : List Thread) (i : ℕ) (t : Thread) → slice_get xs i ≡ Some t → set xs i t ≡ xs
@@ -54,3 +69,29 @@ set_same (x ∷ xs) (suc i) t at = ap (λ ys. x ∷ ys) (set_same xs i t at)
 pub put_same : (which : Which) (t : Thread) (ts : Places Thread) → at_place which ts ≡ Some t → put which t ts ≡ ts
 put_same (Slot i) t ts at = ap (λ xs. record { list = xs; detached = ts.detached }) (set_same ts.list i t at)
 put_same Detached t ts at = ap (λ o. record { list = ts.list; detached = o }) (sym at)
+
+-- one level less, behind the steps of the code
+pub less_count : (n d : ℕ) (which : Which) (t : Thread) (old new : List Level) (ts : Places Thread) → IsCount n ts → Some t ≡ at_place which ts → old ≡ t.levels → new ≡ without_top old → d ≡ length old → (d ≡ 0 → ⊥) → IsCount (n - 1) (put which (record t { levels = new }) ts)
+less_count n d which t old new ts k at before after is there =
+    let e : length new ≡ length old - 1 = ap length after ∙ length-without_top old in
+    let own : length t.levels ≤ n = own_count n which t ts k at in
+    put_count (n - 1) n which t (record t { levels = new }) ts k at (omega (arith, ap length before)) (omega (arith, k.few))
+
+pub no_count : (n d : ℕ) (which : Which) (t : Thread) (old new : List Level) (ts : Places Thread) → IsCount n ts → Some t ≡ at_place which ts → old ≡ t.levels → new ≡ without_top old → d ≡ length old → d ≡ 0 → IsCount n (put which (record t { levels = new }) ts)
+no_count n d which t old new ts k at before after is none =
+    let e : length new ≡ length old - 1 = ap length after ∙ length-without_top old in
+    same_count n which t (record t { levels = new }) ts k at (omega (arith, ap length before))
+
+-- threads that are done are gone
+pub listed_count : (n : ℕ) (ts : Places Thread) → IsCount n ts → sum_by (λ t. length t.levels) (without_done ts).list ≤ n
+listed_count n ts k =
+    let e = sum_by-filter_both (λ (t : Thread). not (is_done t.status)) (λ (t : Thread). not (not (is_done t.status))) (λ t. refl) (λ (t : Thread). length t.levels) ts.list in
+    omega (arith, k.sum, e)
+
+pub done_count : (n m : ℕ) (old new : Places Thread) → IsCount n old → new ≡ without_done old → m ≡ sum_by (λ t. length t.levels) new.list → IsCount m new
+done_count n m old new k is e =
+    let none : sum_some (λ (x : Thread). length x.levels) new.detached ≡ 0 = ap (λ (ts : Places Thread). sum_some (λ (x : Thread). length x.levels) ts.detached) is in
+    record {
+      sum = omega (arith, e, none);
+      few = omega (arith, k.few, listed_count n old k, e, ap (λ (ts : Places Thread). sum_by (λ (x : Thread). length x.levels) ts.list) is);
+    }

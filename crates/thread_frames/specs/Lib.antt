@@ -6,3 +6,4 @@ pub mod Threads
 pub mod Lending
 pub mod Counting
 pub mod Stops
+pub mod Restarting

@@ -1,5 +1,5 @@
 -- The threads of a run as contracts see them, whatever keeps their levels.
-use Rattle.std.specs.Prelude.{ℕ, List, [], ◌∷◌, length, map, filter, not, false, Option, Some, None}
+use Rattle.std.specs.Prelude.{ℕ, ◌==◌, ◌&&◌, Bool, List, [], ◌∷◌, length, map, filter, not, false, Option, Some, None}
 use Rattle.script_machine.specs.Script.{Script, End, Then, place_of}
 use Rattle.script_machine.specs.Program.{Head, hat_block}
 use Rattle.script_machine.specs.declared.threads.Status.{Status}
@@ -24,8 +24,8 @@ new_thread serial of target hat first =
     record { serial = serial; of = of; target = target; hat = hat; status = Running; levels = new_level first false ∷ [] }
 
 -- a new thread of the same instance and hat
-abbrev pub again : (serial : ℕ) → (first : Option ℕ) → Thread → Thread
-again serial first t = new_thread serial t.of t.target t.hat first
+abbrev pub again : (serial target : ℕ) → (first : Option ℕ) → Thread → Thread
+again serial target first t = new_thread serial t.of target t.hat first
 
 -- a thread that is done has no levels
 abbrev pub finish : Thread → Thread
@@ -54,6 +54,13 @@ fresh serial of head = new_thread serial of (place_of head.hat).target (hat_bloc
 -- threads of levels, as starting and ending see them
 abbrev pub frames : Handle Thread
 frames = record { of = λ t. t.of; hat = λ t. t.hat; is_done = λ t. is_done t.status; depth = λ t. length t.levels; finish = finish; fresh = fresh }
+
+-- a thread of this instance and hat, and one that is not done
+abbrev pub is_of : (of hat : ℕ) → Thread → Bool
+is_of of hat t = t.of == of && t.hat == hat
+
+abbrev pub is_alive_of : (of hat : ℕ) → Thread → Bool
+is_alive_of of hat t = is_of of hat t && not (is_done t.status)
 
 -- the list as rows see it
 abbrev pub listed : Places Thread → List Listed
