@@ -1,8 +1,9 @@
 -- How many levels are open where a thread is changed.
-use Rattle.std.proofs.Common.{◌≡◌, ℕ, ◌+◌, ◌-◌, ◌<◌, ◌≤◌, zero, suc, List, [], ◌∷◌, ◌++◌, length, set, get_or, sym, ap, ◌∙◌, arith, Some, None, Option, slice_get, refl}
+use Rattle.std.proofs.Common.{◌≡◌, ℕ, ◌+◌, ◌-◌, ◌<◌, ◌≤◌, zero, suc, List, [], ◌∷◌, ◌++◌, length, set, get_or, sym, ap, ◌∙◌, arith, Some, None, Option, slice_get, refl, inl, inr}
 use Rattle.std.specs.Prelude.{sum_by, not}
 use Rattle.std.proofs.lemmas.List.Filters.{sum_by-filter_both}
 use Rattle.script_machine.specs.Threads.{is_done}
+use Rattle.std.proofs.lemmas.Bool.{cases_Bool}
 use Rattle.std.proofs.lemmas.List.Sums.{sum_by-set}
 use Rattle.std.proofs.lemmas.Option.{slice_get_within, get_or_from_slice_get}
 use Rattle.script_machine.specs.declared.threads.Which.{Which}
@@ -10,7 +11,7 @@ use Rattle.script_machine.specs.declared.threads.Which.TheVariants.{Slot, Detach
 use Rattle.script_machine.specs.Outcome.{most_levels}
 use Rattle.script_machine.specs.Places.{Places, at_place, put, sum_some}
 use Rattle.thread_frames.specs.declared.level.Level.{Level}
-use Rattle.thread_frames.specs.Levels.{on_top, without_top}
+use Rattle.thread_frames.specs.Levels.{on_top, without_top, is_called, from_call, unwound}
 use Rattle.thread_frames.specs.Threads.{Thread, without_done}
 use Rattle.thread_frames.specs.Counting.{open_in, IsCount}
 
@@ -95,3 +96,13 @@ done_count n m old new k is e =
       sum = omega (arith, e, none);
       few = omega (arith, k.few, listed_count n old k, e, ap (λ (ts : Places Thread). sum_by (λ (x : Thread). length x.levels) ts.list) is);
     }
+
+pub length-from_call : (ls : List Level) → length (from_call ls) ≤ length ls
+length-from_call [] = omega arith
+length-from_call (l ∷ ls) = elim (cases_Bool (is_called l.context)) [
+  | inl t ↦ rw t (omega arith)
+  | inr f ↦ rw f (omega (arith, length-from_call ls))
+]
+
+pub length-unwound : (ls : List Level) → length (unwound ls) ≤ length ls
+length-unwound ls = omega (arith, length-from_call (without_top ls), length-without_top ls)

@@ -9,6 +9,7 @@ use Rattle.script_machine.specs.declared.threads.Context.{Context}
 use Rattle.script_machine.specs.declared.threads.Context.TheVariants.{Fresh, Repeat, Wait, Glide, Started, Asked, Spoken, Called}
 use Rattle.script_machine.specs.declared.threads.Control.{Control}
 use Rattle.script_machine.specs.declared.threads.Control.TheVariants.{Branch, Yield, YieldTick, Promise, Call, Start}
+use Rattle.thread_frames.specs.Levels.{is_called}
 
 -- no fewer than 0 turns are left
 abbrev pub is_left : Count → Bool
@@ -42,10 +43,6 @@ top_fits _ _ _ = false
 abbrev pub empty_fits : Context → (is_loop : Bool) → Bool
 empty_fits Fresh false = true
 empty_fits _ _ = false
-
-abbrev pub is_called : Context → Bool
-is_called Called = true
-is_called _ = false
 
 abbrev pub is_calls : Kind → Bool
 is_calls Calls = true

@@ -1,8 +1,8 @@
 -- The levels of a thread, the top one first, and what is done with them (scratch-vm, engine/thread.js, its stack).
 pub use Rattle.thread_frames.specs.declared.level.Level.{Level}
-use Rattle.std.specs.Prelude.{ℕ, Bool, false, List, [], ◌∷◌, Option, Some, None}
+use Rattle.std.specs.Prelude.{ℕ, Bool, true, false, if◌then◌else◌, List, [], ◌∷◌, Option, Some, None}
 use Rattle.script_machine.specs.declared.threads.Context.{Context}
-use Rattle.script_machine.specs.declared.threads.Context.TheVariants.{Fresh}
+use Rattle.script_machine.specs.declared.threads.Context.TheVariants.{Fresh, Called}
 use Rattle.script_machine.specs.Threads.{Params}
 
 -- a level that was just opened
@@ -30,6 +30,19 @@ on_top f (top ∷ under) = f top ∷ under
 abbrev pub without_top : List Level → List Level
 without_top [] = []
 without_top (top ∷ under) = under
+
+abbrev pub is_called : Context → Bool
+is_called Called = true
+is_called _ = false
+
+-- the levels from the nearest one, from the top, that has called
+abbrev pub from_call : List Level → List Level
+from_call [] = []
+from_call (l ∷ ls) = if is_called l.context then l ∷ ls else from_call ls
+
+-- the top level is given up, and then all down to one that has called
+abbrev pub unwound : List Level → List Level
+unwound levels = from_call (without_top levels)
 
 -- what the block of the top level keeps
 abbrev pub top_context : List Level → Context

@@ -7,3 +7,4 @@ pub mod Lending
 pub mod Counting
 pub mod Stops
 pub mod Restarting
+pub mod Stopping

@@ -18,7 +18,7 @@ pub struct Level {
 impl Level {
     ghost use Rattle.std.specs.Prelude.{◌≡◌};
     ghost use Rattle.script_machine.specs.declared.threads.Context.TheVariants.{Fresh};
-    ghost use Rattle.thread_frames.specs.Levels.{new_level, at_next, with_loop, with_context, with_params};
+    ghost use Rattle.thread_frames.specs.Levels.{new_level, at_next, with_loop, with_context, with_params, is_called};
 
     // A level that was just opened.
     #[inline]
@@ -68,6 +68,14 @@ impl Level {
         ensures level { self.new ≡ with_context Fresh self.old }
     {
         mem::replace(&mut self.context, Context::Fresh)
+    }
+
+    // Whether the block has called.
+    #[inline]
+    pub(crate) fn has_called(&self) -> bool
+        ensures { result ≡ is_called self.now.context }
+    {
+        matches!(self.context, Context::Called)
     }
 
     // Sets the parameters.

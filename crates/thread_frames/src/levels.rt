@@ -1,9 +1,9 @@
 //! The levels of one thread.
 
-ghost use Rattle.std.specs.Prelude.{◌≡◌, [], ◌∷◌, length, slice_get, false, OnOk, OnErr};
+ghost use Rattle.std.specs.Prelude.{◌≡◌, [], ◌∷◌, length, nat_lt, slice_get, false, OnOk, OnErr};
 ghost use Rattle.std.specs.Option.{option_copied, option_map};
 ghost use Rattle.script_machine.specs.declared.threads.Context.TheVariants.{Fresh};
-ghost use Rattle.thread_frames.specs.Levels.{new_level, at_next, with_loop, with_context, with_params, on_top, without_top, top_context, near_params};
+ghost use Rattle.thread_frames.specs.Levels.{new_level, at_next, with_loop, with_context, with_params, on_top, without_top, top_context, near_params, is_called, from_call, unwound};
 
 use crate::level::Level;
 use scratch_values::Params;
@@ -80,6 +80,32 @@ impl Levels {
         ensures { self.new ≡ without_top self.old }
     {
         let _top = self.bottom_first.pop();
+    }
+
+    /// Gives up the top level, and then all down to one that has called; true where there is such a level.
+    pub fn unwind(&mut self) -> bool
+        ensures levels { self.new ≡ unwound self.old }
+        ensures found { result ≡ nat_lt 0 (length self.new) }
+    {
+        self.pop();
+        while self.depth() > 0 {
+            if self.has_called() {
+                return true;
+            }
+            self.pop();
+        }
+        false
+    }
+
+    // Whether the block of the top level has called.
+    #[inline]
+    fn has_called(&self) -> bool
+        ensures { result ≡ is_called (top_context self.now) }
+    {
+        match self.bottom_first.last() {
+            Some(top) => top.has_called(),
+            None => false,
+        }
     }
 
     /// Gives up all levels.

@@ -1,18 +1,20 @@
 //! The threads of a run.
 
-ghost use Rattle.std.specs.Prelude.{◌≡◌, ℕ, ◌==◌, [], ◌∷◌, length, nat_lt, true, false, Some, None, slice_get, position, OnOk, OnErr, IfOk};
+ghost use Rattle.std.specs.Prelude.{◌≡◌, ℕ, ◌==◌, ◌+◌, ◌≤◌, [], ◌∷◌, length, nat_lt, true, false, Some, None, slice_get, position, OnOk, OnErr, IfOk};
 ghost use Rattle.std.specs.List.{list_any};
 ghost use Rattle.std.specs.Option.{option_copied, option_map};
 ghost use Rattle.script_machine.specs.declared.threads.Context.TheVariants.{Fresh};
-ghost use Rattle.script_machine.specs.Outcome.{Goes, with_room};
+ghost use Rattle.script_machine.specs.Outcome.{Goes, with_room, most_levels};
 ghost use Rattle.script_machine.specs.Places.{Places, at_place, on_place, place};
-ghost use Rattle.script_machine.specs.Starting.{open_levels, appended};
-ghost use Rattle.thread_frames.specs.Levels.{new_level, at_next, with_loop, with_context, with_params, on_top, without_top, top_context, near_params};
+ghost use Rattle.script_machine.specs.Starting.{open_levels, appended, finished_of, is_spared as is_spared_by};
+ghost use Rattle.thread_frames.specs.Levels.{new_level, at_next, with_loop, with_context, with_params, on_top, without_top, top_context, near_params, unwound};
 ghost use Rattle.thread_frames.specs.Threads.{frames, no_threads, without_detached, without_done, new_thread, is_of, is_alive_of, on_levels, levels_of, with_status, finish as finished};
 ghost use Rattle.thread_frames.specs.Restarting.{restarted};
+ghost use Rattle.thread_frames.specs.Stopping.{stopped, is_some_stopped};
 ghost use Rattle.thread_frames.specs.Stops.{PushStopIs};
 
 use crate::level::Level;
+use crate::levels::Levels;
 use crate::stops::PushStop;
 use crate::table::Table;
 use crate::thread::Thread;
@@ -20,6 +22,7 @@ use scratch_values::Params;
 use script_machine::{BlockId, Boxed, Context, InstanceId, Serial, Status, TargetId, Which};
 use std::alloc::{AllocError, Global};
 use std::marker::Model;
+use std::mem;
 
 // The most levels that may be open.
 const MOST_LEVELS: usize = 65_536;
@@ -291,6 +294,48 @@ impl Threads {
         depth > 1
     }
 
+    /// Gives up the top level of a thread, and then all down to one that has called; true where there is such a level.
+    pub fn stop_this_script(&mut self, which: Which) -> bool
+        ensures levels { self.new ≡ on_place (on_levels unwound) which self.old }
+        ensures found { result ≡ nat_lt 0 (length (unwound (levels_of (at_place which self.old)))) }
+    {
+        let Some(thread) = self.table.at_mut(which) else {
+            return false;
+        };
+        let levels = thread.levels_mut();
+        let before = levels.depth();
+        let found = levels.unwind();
+        self.open_levels -= before - levels.depth();
+        found
+    }
+
+    /// Takes the levels of a thread away, to be put back by `put_levels`. It takes no memory.
+    pub fn take_levels(&mut self, which: Which) -> Levels
+        ensures levels { result ≡ levels_of (at_place which self.old) }
+        ensures left { self.new ≡ on_place (on_levels (λ ls. [])) which self.old }
+    {
+        let none = Levels::new(self.alloc);
+        let Some(thread) = self.table.at_mut(which) else {
+            return none;
+        };
+        let levels = mem::replace(thread.levels_mut(), none);
+        self.open_levels -= levels.depth();
+        levels
+    }
+
+    /// Puts levels in place of those of a thread. With all that are open they are no more than 65,536.
+    pub fn put_levels(&mut self, which: Which, levels: Levels)
+        requires { open_levels frames self.old + length levels ≤ most_levels }
+        ensures { self.new ≡ on_place (on_levels (λ ls. levels)) which self.old }
+    {
+        let depth = levels.depth();
+        let Some(thread) = self.table.at_mut(which) else {
+            return;
+        };
+        let before = mem::replace(thread.levels_mut(), levels);
+        self.open_levels = self.open_levels - before.depth() + depth;
+    }
+
     /// The top level of a thread goes to the next block: it loses its loop mark, its context and its parameters.
     pub fn go_next(&mut self, which: Which, next: Option<BlockId>)
         ensures { self.new ≡ on_place (on_levels (on_top (at_next next))) which self.old }
@@ -364,6 +409,35 @@ impl Threads {
         self.open_levels -= depth;
     }
 
+    /// Makes the listed threads of an instance done, but for the one at a place.
+    pub fn stop_of(&mut self, of: InstanceId, except: Option<Which>)
+        ensures { self.new ≡ finished_of frames except of self.old }
+    {
+        for slot in 0..self.len() {
+            self.stop_at(slot, of, except);
+        }
+    }
+
+    // Makes the thread of a slot done, where it is one of the instance and is not spared.
+    fn stop_at(&mut self, slot: u64, of: InstanceId, except: Option<Which>)
+        ensures { self.new ≡ on_place (stopped except of slot) (Which.Slot slot) self.old }
+    {
+        if self.is_stopped(slot, of, except) {
+            self.finish(Which::Slot(slot));
+        }
+    }
+
+    // Whether the thread of a slot is one of the instance and is not spared.
+    fn is_stopped(&self, slot: u64, of: InstanceId, except: Option<Which>) -> bool
+        ensures { result ≡ is_some_stopped except of slot (slice_get self.now.list slot) }
+    {
+        let spared = is_spared(except, slot);
+        match self.table.at(Which::Slot(slot)) {
+            Some(thread) => thread.of() == of && !spared,
+            None => false,
+        }
+    }
+
     /// Drops the detached thread.
     pub fn drop_detached(&mut self)
         ensures { self.new ≡ without_detached self.old }
@@ -388,5 +462,16 @@ impl Threads {
     {
         self.table.clear();
         self.open_levels = 0;
+    }
+}
+
+// Whether the place is that of the slot.
+fn is_spared(place: Option<Which>, slot: u64) -> bool
+    ensures { result ≡ is_spared_by place slot }
+{
+    match place {
+        Some(Which::Slot(own)) => own == slot,
+        Some(Which::Detached) => false,
+        None => false,
     }
 }
