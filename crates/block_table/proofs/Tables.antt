@@ -1,5 +1,5 @@
 -- Tables of blocks, and what tells the blocks.
-use Rattle.std.proofs.Common.{◌≡◌, ℕ, ◌<◌, ◌^◌, Bool, List, [], ◌∷◌, length, map, Ok, refl, sym, ◌∙◌, ap, subst, arith}
+use Rattle.std.proofs.Common.{◌≡◌, ℕ, suc, None, ◌<◌, ◌^◌, Bool, List, [], ◌∷◌, length, map, Ok, refl, sym, ◌∙◌, ap, subst, arith}
 use Rattle.std.proofs.lemmas.List.{length-map}
 use Rattle.project_json.specs.Tree.{Tree}
 use Rattle.shapes.specs.Shapes.{each_member}
@@ -9,6 +9,9 @@ use Rattle.project_file.specs.Linked.{IsClosed}
 use Rattle.project_file.specs.Reading.{Origin, origin_of, table_of}
 use Rattle.block_table.specs.Parts.{is_list}
 use Rattle.block_table.specs.Table.{origins, IsTable, IsNumbered, Numbered}
+use Rattle.project_file.specs.Limits.{first_too_many, table_measures}
+use Rattle.block_table.specs.Short.{HaveShortFields}
+use Rattle.block_table.proofs.Short.{short_blocks}
 use Rattle.block_table.proofs.Closed.{closed, of_blocks, length-blocks}
 
 -- of the members of an object
@@ -21,6 +24,11 @@ pub ids-origins : (ids : List (List ℕ)) (lists : List Bool) → length lists �
 ids-origins [] lists same = refl
 ids-origins (id ∷ ids) [] same = absurd (omega arith)
 ids-origins (id ∷ ids) (b ∷ lists) same = ap (λ more. id ∷ more) (ids-origins ids lists (omega arith))
+
+length-origins : (ids : List (List ℕ)) (lists : List Bool) → length lists ≡ length ids → length (origins ids lists) ≡ length ids
+length-origins [] lists same = refl
+length-origins (id ∷ ids) [] same = absurd (omega arith)
+length-origins (id ∷ ids) (b ∷ lists) same = ap suc (length-origins ids lists (omega arith))
 
 -- What is read of the members of an object
 
@@ -49,11 +57,12 @@ module _ (at : List (List ℕ)) (ms : List (List ℕ × Tree)) (ids : List (List
 -- What is read, where no text is too long
 
 module _ (ids : List (List ℕ)) (lists : List Bool) (blocks short : List Block) (is : IsTable ids lists blocks) (same : short ≡ blocks) where
-  pub bounded_is_numbered : IsNumbered ids short
-  bounded_is_numbered = record {
+  pub bounded_is_numbered : (at : List (List ℕ)) → first_too_many (table_measures at (record { origins = origins ids lists; blocks = blocks })) ≡ None → IsNumbered ids short
+  bounded_is_numbered at none = record {
     each = ap length same ∙ is.each;
     few = is.few;
     closed = subst IsClosed (sym same) is.closed;
+    short = subst HaveShortFields (sym same) (short_blocks at (origins ids lists) blocks (is.each ∙ sym (length-origins ids lists is.kinds)) none);
   }
 
   pub bounded_shows : (let shown : Numbered = record { ids = ids; blocks = short } in shown) ≡ record { ids = map (λ (o : Origin). o.id) (origins ids lists); blocks = blocks }

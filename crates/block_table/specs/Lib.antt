@@ -1,3 +1,4 @@
+pub mod Short
 pub mod FileBlock
 pub mod Measured
 pub mod Parts

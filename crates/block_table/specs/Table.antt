@@ -9,6 +9,7 @@ use Rattle.project_file.specs.Linked.{IsClosed}
 use Rattle.project_file.specs.Reading.{Origin, Table, table_of}
 use Rattle.block_table.specs.declared.file_block.FileBlock.{FileBlock}
 use Rattle.block_table.specs.FileBlock.{block_in}
+use Rattle.block_table.specs.Short.{HaveShortFields}
 
 -- the blocks beside their ids, in the order of the document: the number of a block is its place
 pub record Numbered : Type 0 where
@@ -38,6 +39,7 @@ pub record IsNumbered (ids : List (List ℕ)) (blocks : List Block) : Type 0 whe
   pub each : length blocks ≡ length ids
   pub few : length ids < 2 ^ 32
   pub closed : IsClosed blocks
+  pub short : HaveShortFields blocks
 
 -- the table of the blocks that a value tells, which is an object
 abbrev pub table_at : Reader Tree Table

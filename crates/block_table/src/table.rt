@@ -8,6 +8,7 @@ ghost use Rattle.project_file.specs.Limits.{table_measures};
 ghost use Rattle.project_file.specs.Linked.{IsClosed};
 ghost use Rattle.project_file.specs.Reading.{table_of};
 ghost use Rattle.block_table.specs.Refused.{Fits};
+ghost use Rattle.block_table.specs.Short.{HaveShortFields};
 ghost use Rattle.block_table.specs.Table.{numbered};
 
 use crate::bounding::short_blocks;
@@ -120,6 +121,7 @@ impl BlockTable {
     pub fn blocks(&self) -> &[Block]
         ensures blocks { result.now ≡ self.now.blocks }
         ensures closed { IsClosed self.now.blocks }
+        ensures short { HaveShortFields self.now.blocks }
     {
         self.blocks.as_slice()
     }

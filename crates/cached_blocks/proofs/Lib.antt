@@ -2,3 +2,4 @@ mod Steps
 mod Branches
 mod Names
 mod Blocks
+mod Told

@@ -1,3 +1,3 @@
 pub mod Parts
-pub mod Short
 pub mod Cached
+pub mod Told

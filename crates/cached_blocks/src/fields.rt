@@ -5,7 +5,7 @@ ghost use Rattle.scratch_values.specs.Longest.{longest};
 ghost use Rattle.project_file.specs.Resolving as told;
 ghost use Rattle.project_file.specs.Trees.{menu_text};
 ghost use Rattle.cached_blocks.specs.Parts.{is_part};
-ghost use Rattle.cached_blocks.specs.Short.{AreShort};
+ghost use Rattle.block_table.specs.Short.{AreShort};
 ghost use Rattle.cached_blocks.specs.Cached.{cached_field};
 
 use crate::block::CachedFields;

@@ -8,7 +8,7 @@ ghost use Rattle.opcode_table.specs.Table.{row};
 ghost use Rattle.opcode_table.specs.Views.{input_of};
 ghost use Rattle.project_file.specs.Resolving as told;
 ghost use Rattle.project_file.specs.Trees.{is_apart, operand, operand_by};
-ghost use Rattle.cached_blocks.specs.Short.{HaveShortFields, AreShort};
+ghost use Rattle.block_table.specs.Short.{HaveShortFields, AreShort};
 ghost use Rattle.cached_blocks.specs.Cached.{sheet_with, plugged_by, plugged_at, with_plugged, same_names};
 
 use crate::block::CachedInputs;

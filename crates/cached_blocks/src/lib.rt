@@ -5,10 +5,12 @@
 mod block;
 mod fields;
 mod inputs;
+mod laws;
 mod links;
 mod making;
 
 pub use block::{CachedBlock, CachedBlocks, CachedFields, CachedInputs};
+pub use laws::{a_script_is_told, an_expression_is_told, links_fall};
 pub use making::cache_blocks;
 
 #[cfg(test)]

@@ -2,7 +2,7 @@
 
 ghost use Rattle.std.specs.Prelude.{◌≡◌, IfOk};
 ghost use Rattle.project_file.specs.Trees.{op_by};
-ghost use Rattle.cached_blocks.specs.Short.{HaveShortFields};
+ghost use Rattle.block_table.specs.Short.{HaveShortFields};
 ghost use Rattle.cached_blocks.specs.Cached.{sheet_with, cached_block, cached_blocks};
 
 use crate::block::{CachedBlock, CachedBlocks};

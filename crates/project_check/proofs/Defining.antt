@@ -131,7 +131,7 @@ numbered_at n t [] = refl
 numbered_at n zero (x ∷ xs) = ap (λ k. Some (k, x)) (the_first n)
 numbered_at n (suc t) (x ∷ xs) = numbered_at (n + 1) t xs ∙ ap (λ k. option_map (λ x. (k, x)) (slice_get xs t)) (the_next n t)
 
-held_at : {A : Type 0} (xs : List A) (t : ℕ) (d : A) → t < length xs → slice_get xs t ≡ Some (unwrap_or (slice_get xs t) d)
+pub held_at : {A : Type 0} (xs : List A) (t : ℕ) (d : A) → t < length xs → slice_get xs t ≡ Some (unwrap_or (slice_get xs t) d)
 held_at [] t d h = absurd (omega (arith, h))
 held_at (x ∷ xs) zero d h = refl
 held_at (x ∷ xs) (suc t) d h = held_at xs t d (omega (arith, h))

@@ -2,4 +2,5 @@ pub mod Room
 pub mod Resolved
 pub mod FirstTooMany
 pub mod Linking
-pub mod Defining
+pub mod Caching
+mod Defining

@@ -19,7 +19,8 @@ use Rattle.name_resolving.specs.Blocks.{flags_by, flag_of}
 use Rattle.project_check.specs.Loaded.{checked_by, Resolves}
 use Rattle.project_check.specs.Counts.{block_count}
 use Rattle.project_check.specs.Heads.{head_numbers}
-use Rattle.project_check.specs.Kept.{IsProjectOf}
+use Rattle.cached_blocks.specs.declared.block.CachedBlock.{CachedBlock}
+use Rattle.project_check.specs.Kept.{CachesAll, IsProjectOf}
 use Rattle.project_check.proofs.Room.{sum_by-map}
 
 -- the flags, as they are lent
@@ -109,10 +110,10 @@ targets-each checked t (bs ∷ more) records zero blocks refs h k =
 targets-each checked t (bs ∷ more) records (suc i) blocks refs h k = targets-each checked (t + 1) more (resolved_blocks (checked t) t 0 bs records).records i blocks refs h k
 
 -- what a project keeps, from what was tested and resolved
-pub keeps : (old new : Records) (tables : List (List Block)) (links : List Kept) (names : List (List (List Resolved))) (heads : List (List ℕ)) (total : ℕ)
-    → length old.targets ≡ length tables → length tables < 2 ^ 32 → All (Passes tables) tests → AllZip IsKept tables links → Resolves links tables old new names
-    → heads ≡ map head_numbers tables → total ≡ block_count tables → IsProjectOf new tables links names heads total
-keeps old new tables links names heads total same few passes kept res numbers count = record {
+pub keeps : (old new : Records) (tables : List (List Block)) (links : List Kept) (names : List (List (List Resolved))) (cached : List (List CachedBlock)) (heads : List (List ℕ)) (total : ℕ)
+    → length old.targets ≡ length tables → length tables < 2 ^ 32 → All (Passes tables) tests → AllZip IsKept tables links → Resolves links tables old new names → CachesAll tables names cached
+    → heads ≡ map head_numbers tables → total ≡ block_count tables → IsProjectOf new tables links names cached heads total
+keeps old new tables links names cached heads total same few passes kept res caches numbers count = record {
   targets = sym (ap (λ f. length f.records.targets) res.is) ∙ targets-targets res.checked 0 tables old ∙ same;
   few = few;
   tests = passes;
@@ -120,6 +121,7 @@ keeps old new tables links names heads total same few passes kept res numbers co
   ranks = λ t blocks k h g. (zip_at IsKept tables links t blocks k kept h g).ranks;
   names = sym (ap (λ f. length f.what) res.is) ∙ targets-length res.checked 0 tables old;
   each = λ t blocks refs h g. targets-each res.checked 0 tables old t blocks refs h (ap (λ f. slice_get f.what t) res.is ∙ g);
+  caches = caches;
   heads = numbers;
   count = count;
 }
@@ -136,3 +138,6 @@ pub blocks_here : (tables : List BlockTable) (t : ℕ) (table : BlockTable) → 
 blocks_here [] t table h e = absurd (omega (arith, h))
 blocks_here (x ∷ xs) zero table h e = sym (ap (λ b. b.blocks) e)
 blocks_here (x ∷ xs) (suc t) table h e = blocks_here xs t table (omega (arith, h)) e
+
+pub as_many_names : (old new : Records) (tables : List (List Block)) (links : List Kept) (names : List (List (List Resolved))) → Resolves links tables old new names → length names ≡ length tables
+as_many_names old new tables links names res = sym (ap (λ f. length f.what) res.is) ∙ targets-length res.checked 0 tables old

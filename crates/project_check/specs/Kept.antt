@@ -27,6 +27,6 @@ pub record IsProjectOf (records : Records) (tables : List (List Block)) (kept : 
   pub ranks : (t : ℕ) (blocks : List Block) (k : Kept) → slice_get tables t ≡ Some blocks → slice_get kept t ≡ Some k → AreRanks blocks k.ranks
   pub names : length resolved ≡ length tables
   pub each : (t : ℕ) (blocks : List Block) (refs : List (List Resolved)) → slice_get tables t ≡ Some blocks → slice_get resolved t ≡ Some refs → length refs ≡ length blocks
-  pub cached : CachesAll tables resolved cached
+  pub caches : CachesAll tables resolved cached
   pub heads : numbers ≡ map head_numbers tables
   pub count : total ≡ block_count tables

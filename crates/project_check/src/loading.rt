@@ -1,10 +1,9 @@
 //! Loading a project file.
 
 ghost use Rattle.std.specs.Prelude.{◌≡◌, ◌<◌, ◌^◌, length, map, IfOk};
-ghost use Rattle.std.specs.List.{sum_by, All};
+ghost use Rattle.std.specs.List.{sum_by};
 ghost use Rattle.target_records.specs.Records.{records_in};
 ghost use Rattle.name_resolving.specs.Room.{HasRoom};
-ghost use Rattle.cached_blocks.specs.Short.{HaveShortFields};
 ghost use Rattle.project_check.specs.Kept.{CachesAll};
 ghost use Rattle.project_check.specs.Loaded.{IsLinked, Loads, Resolves, of_json, of_fault};
 
@@ -86,8 +85,7 @@ fn cache_all(
     tables: &[BlockTable],
     names: &ResolvedNames,
 ) -> Result<Vec<CachedBlocks>, AllocError>
-    requires short { All HaveShortFields (map (λ t. t.blocks) tables.now) }
-    requires names { length names.now ≡ length tables.now }
+    requires { length names.now ≡ length tables.now }
     ensures { IfOk result (λ v. CachesAll (map (λ t. t.blocks) tables.now) names.now v.items) }
 {
     let mut cached = Vec::new(alloc);
@@ -104,7 +102,6 @@ fn linked(alloc: Global, mut records: Records, tables: Vec<BlockTable>) -> Resul
     requires few { length tables.items < 2 ^ 32 }
     requires room { HasRoom (records_in records) (map (λ t. t.blocks) tables.items) }
     requires count { sum_by (λ t. length t.blocks) tables.items < 2 ^ 32 }
-    requires short { All HaveShortFields (map (λ t. t.blocks) tables.items) }
     ensures { IsLinked (records_in records) (map (λ t. t.blocks) tables.items) result }
 {
     let links = match test_blocks(alloc, &tables) {

@@ -6,7 +6,11 @@ use Rattle.block_table.proofs.Tables.{bounded_is_numbered, bounded_shows}
 use Rattle.block_table.proofs.table.FileTable.bounded.Goals as goal
 
 pub invariant_of-result : goal.invariant_of-result
-invariant_of-result c = bounded_is_numbered _ _ _ _ c.self.invariant c.in_ok-blocks.ensures.0
+invariant_of-result c =
+    let inside = c.self.inside in
+    let none : first_too_many (table_measures c.args.place.now (table_in inside.ids inside.lists inside.blocks)) ≡ None =
+    rw (sym c.as_slice.ensures, sym c.as_slice-2.ensures) c.in_ok-blocks.ensures.1 in
+    bounded_is_numbered _ _ _ _ c.self.invariant c.in_ok-blocks.ensures.0 c.args.place.now none
 
 pub returns : goal.returns
 returns c =

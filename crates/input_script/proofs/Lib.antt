@@ -1,0 +1,6 @@
+pub mod FirstLine
+pub mod Forward
+pub mod Kept
+pub mod LineWords
+pub mod OneKey
+pub mod Parsed

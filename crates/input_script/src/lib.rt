@@ -1,0 +1,16 @@
+//! The reader of an input script: what each of its lines says, or why it is refused (docs/formats.md).
+#![tactic(auto)]
+
+mod cuts;
+mod keys;
+mod numbers;
+mod ranges;
+mod reading;
+mod script;
+mod words;
+
+pub use script::Script;
+pub use script_machine::{Budget, Key, Line, LineRefusal};
+
+#[cfg(test)]
+mod tests;

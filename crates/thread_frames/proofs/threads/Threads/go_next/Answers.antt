@@ -1,0 +1,7 @@
+use Rattle.thread_frames.specs.Levels.{at_next}
+use Rattle.thread_frames.proofs.Counts.{top_count}
+use Rattle.thread_frames.proofs.threads.Threads.go_next.Goals as goal
+
+pub invariant_of-self-2 : goal.invariant_of-self-2
+invariant_of-self-2 c =
+    top_count (at_next c.args.next) _ _ _ _ _ _ c.self.invariant c.in-Some.ensures.thread c.levels_mut.ensures.levels c.go_next.ensures

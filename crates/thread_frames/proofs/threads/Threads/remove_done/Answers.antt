@@ -1,0 +1,13 @@
+use Rattle.std.proofs.Common.{◌≡◌, ◌≤◌, length, ap, arith}
+use Rattle.std.specs.Prelude.{sum_by}
+use Rattle.script_machine.specs.Places.{Places}
+use Rattle.thread_frames.specs.Threads.{Thread}
+use Rattle.thread_frames.proofs.Counts.{listed_count, done_count}
+use Rattle.thread_frames.proofs.threads.Threads.remove_done.Goals as goal
+
+pub count_listed-self-inside-requires : goal.count_listed-self-inside-requires
+count_listed-self-inside-requires c =
+    rw c.remove_done.ensures (omega (arith, listed_count _ _ c.self.invariant, c.self.invariant.few))
+
+pub invariant_of-self : goal.invariant_of-self
+invariant_of-self c = done_count _ _ _ _ c.self.invariant c.remove_done.ensures c.count_listed-self-inside.ensures

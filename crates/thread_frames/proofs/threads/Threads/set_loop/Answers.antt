@@ -1,0 +1,7 @@
+use Rattle.thread_frames.specs.Levels.{with_loop}
+use Rattle.thread_frames.proofs.Counts.{top_count}
+use Rattle.thread_frames.proofs.threads.Threads.set_loop.Goals as goal
+
+pub invariant_of-self-2 : goal.invariant_of-self-2
+invariant_of-self-2 c =
+    top_count (with_loop c.args.is_loop) _ _ _ _ _ _ c.self.invariant c.in-Some.ensures.thread c.levels_mut.ensures.levels c.set_loop.ensures

@@ -1,0 +1,8 @@
+use Rattle.script_machine.specs.declared.threads.Context.TheVariants.{Fresh}
+use Rattle.thread_frames.specs.Levels.{with_context}
+use Rattle.thread_frames.proofs.Counts.{top_count}
+use Rattle.thread_frames.proofs.threads.Threads.take_context.Goals as goal
+
+pub invariant_of-self-2 : goal.invariant_of-self-2
+invariant_of-self-2 c =
+    top_count (with_context Fresh) _ _ _ _ _ _ c.self.invariant c.in-Some.ensures.thread c.levels_mut.ensures.levels c.take_context.ensures.levels

@@ -1,0 +1,15 @@
+//! The threads of a run as plain data: which there are, how each stands, and the levels that each has open.
+#![tactic(auto)]
+
+mod level;
+mod levels;
+mod stops;
+mod table;
+mod thread;
+mod threads;
+
+pub use level::Level;
+pub use levels::Levels;
+pub use stops::PushStop;
+pub use thread::Thread;
+pub use threads::Threads;
