@@ -17,7 +17,7 @@ use crate::view::{View, sight};
 use cached_blocks::{a_script_is_told, an_expression_is_told};
 use project_file::Operand;
 use project_json::Text;
-use reporters::{contents, reported, variable};
+use reporters::{contents, items, reported, value};
 use scratch_values::{Arg, Args, Held, Value};
 use script_machine::BlockId;
 use script_words::{Counted, Rng, Stop};
@@ -38,12 +38,12 @@ fn operand<'p, R: Rng + Drop>(
     ensures stop { StopIs result (operand_value view.now operand.entry.now (seen_words R.stream words.old)) }
 {
     match operand {
-        Operand::Literal(value) => Ok(Held::Lent(value)),
-        Operand::Variable(variable_ref) => match variable(&sight(view), *variable_ref).clone() {
+        Operand::Literal(literal) => Ok(Held::Lent(literal)),
+        Operand::Variable(variable) => match value(&sight(view), *variable).clone() {
             Ok(value) => Ok(Held::Own(value)),
             Err(_) => Err(Stop::NoMemory),
         },
-        Operand::List(list) => match contents(alloc, &sight(view), *list) {
+        Operand::List(list) => match contents(alloc, items(&sight(view), *list).as_slice()) {
             Ok(value) => Ok(Held::Own(value)),
             Err(stop) => Err(stop),
         },

@@ -4,10 +4,10 @@
 #![tactic(auto)]
 
 mod arguments;
-mod contents;
 mod equality;
 mod instances;
 mod keys;
+mod list_contents;
 mod list_items;
 mod mathop;
 mod picking;
@@ -18,5 +18,6 @@ mod sight;
 mod texts;
 mod written;
 
+pub use list_contents::contents;
 pub use reporting::reported;
-pub use sight::Sight;
+pub use sight::{Sight, items, value};

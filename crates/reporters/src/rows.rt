@@ -162,7 +162,7 @@ pub(crate) fn list_contents(
     ensures stop { StopIs result (text_value (contents_text (machine.items (seen sight.now) args.now))) }
 {
     let items = items(sight, variable(args, "LIST"));
-    contents::contents(alloc, items.as_slice())
+    contents(alloc, items.as_slice())
 }
 
 // An item of the list. `Counter` exactly where a word is needed and none is left; the only other error is want of memory.

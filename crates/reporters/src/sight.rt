@@ -33,9 +33,9 @@ pub(crate) fn stage(records: &Records) -> InstanceId
     InstanceId(u64::from(records.stage().0))
 }
 
-// The value of a variable of the instance that evaluates, or of the stage.
+/// The value of a variable of the instance that evaluates, or of the stage.
 #[inline]
-pub(crate) fn value<'a>(sight: &Sight<'a>, variable: VarRef) -> &'a Value
+pub fn value<'a>(sight: &Sight<'a>, variable: VarRef) -> &'a Value
     ensures { result.now ≡ value_of variable sight.now.here (records_in sight.now.records.now) sight.now.variables.now }
 {
     match variable {
@@ -44,9 +44,9 @@ pub(crate) fn value<'a>(sight: &Sight<'a>, variable: VarRef) -> &'a Value
     }
 }
 
-// The items of a list of the instance that evaluates, or of the stage.
+/// The items of a list of the instance that evaluates, or of the stage.
 #[inline]
-pub(crate) fn items<'a>(sight: &Sight<'a>, list: VarRef) -> &'a Values
+pub fn items<'a>(sight: &Sight<'a>, list: VarRef) -> &'a Values
     ensures items { result.now ≡ items_of list sight.now.here (records_in sight.now.records.now) sight.now.variables.now }
     ensures few { length result.now ≤ most_items }
 {

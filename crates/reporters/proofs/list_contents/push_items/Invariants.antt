@@ -1,7 +1,7 @@
 use Rattle.std.proofs.Common.{◌≡◌, ◌++◌, take}
 use Rattle.std.specs.Prelude.{flat_map, string_bytes}
 use Rattle.reporters.specs.Pieces.{piece}
-use Rattle.reporters.proofs.contents.push_items.Given as goal
+use Rattle.reporters.proofs.list_contents.push_items.Given as goal
 
 -- the texts of the items so far
 abbrev pub invariant-loop-item : goal.invariant-loop-item

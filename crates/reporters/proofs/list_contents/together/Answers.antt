@@ -1,5 +1,5 @@
 use Rattle.reporters.proofs.Pieces.{made_of_same, stops_of_same, pieces_together}
-use Rattle.reporters.proofs.contents.together.Goals as goal
+use Rattle.reporters.proofs.list_contents.together.Goals as goal
 
 pub returns-clause-ok : goal.returns-clause-ok
 returns-clause-ok c = made_of_same c.followed.result _ _ (pieces_together c.args.items.now) c.followed.ensures.ok

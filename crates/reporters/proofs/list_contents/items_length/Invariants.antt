@@ -2,7 +2,7 @@ use Rattle.std.proofs.Common.{◌≡◌, ◌≤◌, ◌*◌, length, take}
 use Rattle.std.specs.List.{sum_by}
 use Rattle.scratch_values.specs.declared.value.Value.{Value}
 use Rattle.reporters.specs.Pieces.{piece}
-use Rattle.reporters.proofs.contents.items_length.Given as goal
+use Rattle.reporters.proofs.list_contents.items_length.Given as goal
 
 -- the length of the items so far
 abbrev pub invariant-loop-item : goal.invariant-loop-item

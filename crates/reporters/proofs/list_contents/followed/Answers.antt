@@ -2,7 +2,7 @@ use Rattle.std.proofs.Common.{◌≡◌, ◌++◌, ◌+◌, length, arith, ap, s
 use Rattle.std.specs.Prelude.{flat_map}
 use Rattle.reporters.specs.Pieces.{piece}
 use Rattle.reporters.proofs.Pieces.{length-pieces, too_long}
-use Rattle.reporters.proofs.contents.followed.Goals as goal
+use Rattle.reporters.proofs.list_contents.followed.Goals as goal
 
 pub returns-then-length-clause-stop : goal.returns-then-length-clause-stop
 returns-then-length-clause-stop c =

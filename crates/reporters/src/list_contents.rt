@@ -130,7 +130,7 @@ fn together(alloc: Global, items: &[Value]) -> Result<Value, Stop>
 
 // The items side by side where each is a text of one character, else with a space between each two. `Text` exactly where
 // that is too long for a value; the only other error is want of memory.
-pub(crate) fn contents(alloc: Global, items: &[Value]) -> Result<Value, Stop>
+pub fn contents(alloc: Global, items: &[Value]) -> Result<Value, Stop>
     requires { length items.now ≤ most_items }
     ensures ok { IfOk result (λ v. machine.text_value (machine.contents_text items.now) ≡ Goes v) }
     ensures stop { StopIs result (machine.text_value (machine.contents_text items.now)) }

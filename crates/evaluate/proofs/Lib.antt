@@ -1,0 +1,2 @@
+mod Plugged
+mod Values

@@ -1,0 +1,34 @@
+use Rattle.std.proofs.Common.{◌≡◌, ℕ, ◌+◌, ◌*◌, drop, map}
+use Rattle.std.specs.List.{slice_index}
+use Rattle.scratch_values.specs.Held.{pair_of}
+use Rattle.script_machine.specs.Words.{seen_words}
+use Rattle.project_check.specs.Loaded.{ranks_at}
+use Rattle.evaluate.specs.declared.view.View.{View}
+use Rattle.evaluate.specs.Seen.{input_values}
+use Rattle.evaluate.proofs.Values.{before}
+use Rattle.evaluate.proofs.evaluating.+evaluate.Given as goal
+
+abbrev rank : View → ℕ → ℕ
+rank v k = slice_index (ranks_at v.target v.project.now) k
+
+abbrev pub decreases-operand : goal.decreases-operand
+decreases-operand g l = 8 * rank l.view.now l.k
+
+abbrev pub decreases-argument : goal.decreases-argument
+decreases-argument g l = 8 * rank l.view.now l.k + 1
+
+abbrev pub decreases-many : goal.decreases-many
+decreases-many g l = 8 * rank l.view.now l.k + 2
+
+abbrev pub decreases-arguments : goal.decreases-arguments
+decreases-arguments g l = 8 * rank l.view.now l.k + 3
+
+abbrev pub decreases-reporter : goal.decreases-reporter
+decreases-reporter g l = 8 * rank l.view.now l.id + 4
+
+-- the values so far, and those of the inputs that are left
+abbrev pub invariant-many-loop-input : goal.invariant-many-loop-input
+invariant-many-loop-input g l = record {
+  of : l.input-items ≡ l.block.inputs;
+  same : input_values l.view l.input-items (seen_words g.R.Rng.stream l.fn.words) ≡ before (map pair_of l.args.items) (input_values l.view (drop l.input-index l.input-items) (seen_words g.R.Rng.stream l.words));
+}
