@@ -1,0 +1,99 @@
+//! A block of data executed.
+
+ghost use Rattle.std.specs.Prelude.{◌≡◌, OnOk, IfOk, IfErr, false};
+ghost use Rattle.script_machine.specs.DataRows.{data_row};
+ghost use Rattle.script_machine.specs.Outcome.{Goes, StopIs};
+ghost use Rattle.script_machine.specs.declared.threads.Context.TheVariants.{Fresh};
+ghost use Rattle.script_machine.specs.declared.threads.Control.TheVariants.{Next};
+ghost use Rattle.target_records.specs.Records.{records_in};
+ghost use Rattle.variables.specs.Held.{HasSameShape};
+ghost use Rattle.data_blocks.specs.Blocks.{parts_of, row};
+ghost use Rattle.data_blocks.specs.Stops.{IsOfWordsOrMemory};
+
+use crate::{list_rows, monitor_rows, variable_rows};
+use opcode_table::Opcode;
+use scratch_values::Args;
+use script_machine::{Control, InstanceId};
+use script_words::{Counted, Rng, Stop};
+use target_records::Records;
+use targets::Targets;
+use variables::Variables;
+
+// Changes what a block of data changes. A block of another group changes nothing.
+fn changed<R: Rng + Drop>(
+    op: Opcode,
+    args: &Args<'_>,
+    here: InstanceId,
+    records: &Records,
+    targets: &Targets,
+    variables: &mut Variables,
+    words: &mut Counted<R>,
+) -> Result<(), Stop>
+    ensures ok { OnOk result (row op args.entry.now here (records_in records.now) targets.now (parts_of R.stream variables.old words.old) ≡ Goes (parts_of R.stream variables.new words.new)) }
+    ensures stop { StopIs result (row op args.entry.now here (records_in records.now) targets.now (parts_of R.stream variables.old words.old)) }
+    ensures kind { IfErr result IsOfWordsOrMemory }
+    ensures held { HasSameShape variables.old variables.new }
+{
+    match op {
+        Opcode::DataSetVariableTo => {
+            variable_rows::set(args, here, records, variables)?;
+            Ok(())
+        }
+        Opcode::DataChangeVariableBy => {
+            variable_rows::change(args, here, records, variables);
+            Ok(())
+        }
+        Opcode::DataShowVariable => {
+            monitor_rows::show_variable(args, here, records, targets, variables, true)?;
+            Ok(())
+        }
+        Opcode::DataHideVariable => {
+            monitor_rows::show_variable(args, here, records, targets, variables, false)?;
+            Ok(())
+        }
+        Opcode::DataShowList => {
+            monitor_rows::show_list(args, here, records, targets, variables, true)?;
+            Ok(())
+        }
+        Opcode::DataHideList => {
+            monitor_rows::show_list(args, here, records, targets, variables, false)?;
+            Ok(())
+        }
+        Opcode::DataAddToList => {
+            list_rows::add(args, here, records, variables)?;
+            Ok(())
+        }
+        Opcode::DataDeleteAllOfList => {
+            list_rows::delete_all(args, here, records, variables);
+            Ok(())
+        }
+        Opcode::DataDeleteOfList => list_rows::delete(args, here, records, variables, words),
+        Opcode::DataInsertAtList => list_rows::insert(args, here, records, variables, words),
+        Opcode::DataReplaceItemOfList => list_rows::replace(args, here, records, variables, words),
+        _ => Ok(()),
+    }
+}
+
+/// Executes a block of data of an instance: the row of its opcode (scratch-vm, blocks/scratch3_data.js). It always goes on
+/// with the next block and requests no redraw; a block of another group does nothing. `Stop` is `Counter` of the words
+/// exactly where `random` or `any` names a place of a list and 2^62 − 1 words were drawn; the only other one is `NoMemory`.
+pub fn apply<R: Rng + Drop>(
+    op: Opcode,
+    args: &Args<'_>,
+    here: InstanceId,
+    records: &Records,
+    targets: &Targets,
+    variables: &mut Variables,
+    words: &mut Counted<R>,
+) -> Result<(Control, bool), Stop>
+    ensures ok { IfOk result (λ r. data_row (records_in records.now) targets.now op args.entry.now here (parts_of R.stream variables.old words.old) ≡ Goes (record { parts = parts_of R.stream variables.new words.new; context = Fresh; control = r.0; redraw = r.1 })) }
+    ensures stop { StopIs result (data_row (records_in records.now) targets.now op args.entry.now here (parts_of R.stream variables.old words.old)) }
+    ensures kind { IfErr result IsOfWordsOrMemory }
+    ensures next { IfOk result (λ r. r ≡ (Next, false)) }
+    ensures held { HasSameShape variables.old variables.new }
+{
+    match changed(op, args, here, records, targets, variables, words) {
+        Ok(()) => Ok((Control::Next, false)),
+        Err(stop) => Err(stop),
+    }
+}

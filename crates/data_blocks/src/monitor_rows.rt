@@ -1,0 +1,61 @@
+//! The blocks that show and hide monitors.
+
+ghost use Rattle.std.specs.Prelude.{◌≡◌, codes, OnOk};
+ghost use Rattle.script_machine.specs.declared.variables.Shown.TheVariants as shown;
+ghost use Rattle.script_machine.specs.DataRows.{named as named_by, shown_as};
+ghost use Rattle.script_machine.specs.Monitors.{monitor_set};
+ghost use Rattle.script_machine.specs.Stores.{instance_at};
+ghost use Rattle.target_records.specs.Records.{records_in};
+ghost use Rattle.variables.specs.Held.{HasSameShape};
+
+use crate::arguments::named;
+use scratch_values::Args;
+use script_machine::{InstanceId, Shown, TargetId};
+use std::alloc::AllocError;
+use target_records::Records;
+use targets::Targets;
+use variables::Variables;
+
+// The target of an instance; the first one where no such instance is live.
+fn target_of(targets: &Targets, of: InstanceId) -> TargetId
+    ensures { result ≡ (instance_at of targets.now).of }
+{
+    match targets.get(of) {
+        Some(instance) => instance.of,
+        None => TargetId(0),
+    }
+}
+
+// `show variable VARIABLE`, and `hide variable VARIABLE`.
+pub(crate) fn show_variable(
+    args: &Args<'_>,
+    here: InstanceId,
+    records: &Records,
+    targets: &Targets,
+    variables: &mut Variables,
+    visible: bool,
+) -> Result<(), AllocError>
+    ensures ok { let v = named_by (codes "VARIABLE") args.entry.now here (records_in records.now) in OnOk result (variables.new ≡ monitor_set (records_in records.now) (shown_as shown.Variable v targets.now) visible variables.old) }
+    ensures held { HasSameShape variables.old variables.new }
+{
+    let variable = named(args, "VARIABLE", here, records);
+    let what = Shown::Variable(target_of(targets, variable.of), variable.index);
+    variables.show(records, what, visible)
+}
+
+// `show list LIST`, and `hide list LIST`.
+pub(crate) fn show_list(
+    args: &Args<'_>,
+    here: InstanceId,
+    records: &Records,
+    targets: &Targets,
+    variables: &mut Variables,
+    visible: bool,
+) -> Result<(), AllocError>
+    ensures ok { let l = named_by (codes "LIST") args.entry.now here (records_in records.now) in OnOk result (variables.new ≡ monitor_set (records_in records.now) (shown_as shown.List l targets.now) visible variables.old) }
+    ensures held { HasSameShape variables.old variables.new }
+{
+    let list = named(args, "LIST", here, records);
+    let what = Shown::List(target_of(targets, list.of), list.index);
+    variables.show(records, what, visible)
+}
