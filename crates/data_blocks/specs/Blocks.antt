@@ -7,7 +7,8 @@ use Rattle.opcode_table.specs.declared.opcode.Opcode.{Opcode}
 use Rattle.scratch_values.specs.Named.{Arguments}
 use Rattle.script_machine.specs.Outcome.{Outcome}
 use Rattle.script_machine.specs.Program.{Records}
-use Rattle.script_machine.specs.Stores.{Instance, Variables}
+use Rattle.script_machine.specs.declared.instance.Instance.{Instance}
+use Rattle.script_machine.specs.Stores.{Variables}
 use Rattle.script_machine.specs.Words.{seen_words}
 use Rattle.script_machine.specs.Parts.{DataParts}
 use Rattle.script_machine.specs.DataRows.{named, data_by}

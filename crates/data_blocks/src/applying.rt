@@ -3,7 +3,8 @@
 ghost use Rattle.std.specs.Prelude.{◌≡◌, OnOk, IfOk, IfErr, false};
 ghost use Rattle.script_machine.specs.DataRows.{data_row};
 ghost use Rattle.script_machine.specs.Outcome.{Goes, StopIs};
-ghost use Rattle.script_machine.specs.Threads.{Fresh, Next};
+ghost use Rattle.script_machine.specs.declared.threads.Context.TheVariants.{Fresh};
+ghost use Rattle.script_machine.specs.declared.threads.Control.TheVariants.{Next};
 ghost use Rattle.target_records.specs.Records.{records_in};
 ghost use Rattle.variables.specs.Held.{HasSameShape};
 ghost use Rattle.data_blocks.specs.Blocks.{parts_of, row};
@@ -34,34 +35,24 @@ fn changed<R: Rng + Drop>(
     ensures held { HasSameShape variables.old variables.new }
 {
     match op {
-        Opcode::DataSetVariableTo => {
-            variable_rows::set(args, here, records, variables)?;
-            Ok(())
-        }
+        Opcode::DataSetVariableTo => Ok(variable_rows::set(args, here, records, variables)?),
         Opcode::DataChangeVariableBy => {
             variable_rows::change(args, here, records, variables);
             Ok(())
         }
         Opcode::DataShowVariable => {
-            monitor_rows::show_variable(args, here, records, targets, variables, true)?;
-            Ok(())
+            Ok(monitor_rows::show_variable(args, here, records, targets, variables, true)?)
         }
         Opcode::DataHideVariable => {
-            monitor_rows::show_variable(args, here, records, targets, variables, false)?;
-            Ok(())
+            Ok(monitor_rows::show_variable(args, here, records, targets, variables, false)?)
         }
         Opcode::DataShowList => {
-            monitor_rows::show_list(args, here, records, targets, variables, true)?;
-            Ok(())
+            Ok(monitor_rows::show_list(args, here, records, targets, variables, true)?)
         }
         Opcode::DataHideList => {
-            monitor_rows::show_list(args, here, records, targets, variables, false)?;
-            Ok(())
+            Ok(monitor_rows::show_list(args, here, records, targets, variables, false)?)
         }
-        Opcode::DataAddToList => {
-            list_rows::add(args, here, records, variables)?;
-            Ok(())
-        }
+        Opcode::DataAddToList => Ok(list_rows::add(args, here, records, variables)?),
         Opcode::DataDeleteAllOfList => {
             list_rows::delete_all(args, here, records, variables);
             Ok(())

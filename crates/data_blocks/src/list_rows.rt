@@ -1,10 +1,11 @@
-//! The blocks of lists.
+//! The blocks of lists. No row of theirs looks at the instances of a run, so their clauses give it none.
 
-ghost use Rattle.std.specs.Prelude.{◌≡◌, OnOk, IfErr, List};
+ghost use Rattle.std.specs.Prelude.{◌≡◌, [], codes, OnOk, IfErr};
 ghost use Rattle.opcode_table.specs.declared.opcode.Opcode.TheVariants as opcode;
 ghost use Rattle.script_machine.specs.Outcome.{Goes, StopIs};
-ghost use Rattle.script_machine.specs.Stores.{Instance};
-ghost use Rattle.script_machine.specs.Words.{Words};
+ghost use Rattle.script_machine.specs.DataRows.{added, list_set, named as named_by};
+ghost use Rattle.script_machine.specs.Stores.{items_of};
+ghost use Rattle.script_machine.specs.View.{value_at};
 ghost use Rattle.target_records.specs.Records.{records_in};
 ghost use Rattle.variables.specs.Held.{HasSameShape};
 ghost use Rattle.data_blocks.specs.Blocks.{parts_of, row};
@@ -28,7 +29,7 @@ pub(crate) fn add(
     records: &Records,
     variables: &mut Variables,
 ) -> Result<(), AllocError>
-    ensures ok { (is : List Instance) (words : Words) → OnOk result (row opcode.DataAddToList args.entry.now here (records_in records.now) is (record { variables = variables.old; words = words }) ≡ Goes (record { variables = variables.new; words = words })) }
+    ensures ok { let l = named_by (codes "LIST") args.entry.now here (records_in records.now) in OnOk result (variables.new ≡ list_set l (added (value_at (codes "ITEM") args.entry.now) (items_of l.ref here (records_in records.now) variables.old)) variables.old) }
     ensures held { HasSameShape variables.old variables.new }
 {
     let list = named(args, "LIST", here, records);
@@ -43,7 +44,7 @@ pub(crate) fn delete_all(
     records: &Records,
     variables: &mut Variables,
 )
-    ensures new { (is : List Instance) (words : Words) → row opcode.DataDeleteAllOfList args.entry.now here (records_in records.now) is (record { variables = variables.old; words = words }) ≡ Goes (record { variables = variables.new; words = words }) }
+    ensures new { variables.new ≡ list_set (named_by (codes "LIST") args.entry.now here (records_in records.now)) [] variables.old }
     ensures held { HasSameShape variables.old variables.new }
 {
     let list = named(args, "LIST", here, records);
@@ -58,9 +59,9 @@ pub(crate) fn delete<R: Rng + Drop>(
     variables: &mut Variables,
     words: &mut Counted<R>,
 ) -> Result<(), Stop>
-    ensures ok { (is : List Instance) → OnOk result (row opcode.DataDeleteOfList args.entry.now here (records_in records.now) is (parts_of R.stream variables.old words.old) ≡ Goes (parts_of R.stream variables.new words.new)) }
+    ensures ok { OnOk result (row opcode.DataDeleteOfList args.entry.now here (records_in records.now) [] (parts_of R.stream variables.old words.old) ≡ Goes (parts_of R.stream variables.new words.new)) }
     ensures held { HasSameShape variables.old variables.new }
-    ensures stop { (is : List Instance) → StopIs result (row opcode.DataDeleteOfList args.entry.now here (records_in records.now) is (parts_of R.stream variables.old words.old)) }
+    ensures stop { StopIs result (row opcode.DataDeleteOfList args.entry.now here (records_in records.now) [] (parts_of R.stream variables.old words.old)) }
     ensures kind { IfErr result IsOfWordsOrMemory }
 {
     let list = named(args, "LIST", here, records);
@@ -81,9 +82,9 @@ pub(crate) fn insert<R: Rng + Drop>(
     variables: &mut Variables,
     words: &mut Counted<R>,
 ) -> Result<(), Stop>
-    ensures ok { (is : List Instance) → OnOk result (row opcode.DataInsertAtList args.entry.now here (records_in records.now) is (parts_of R.stream variables.old words.old) ≡ Goes (parts_of R.stream variables.new words.new)) }
+    ensures ok { OnOk result (row opcode.DataInsertAtList args.entry.now here (records_in records.now) [] (parts_of R.stream variables.old words.old) ≡ Goes (parts_of R.stream variables.new words.new)) }
     ensures held { HasSameShape variables.old variables.new }
-    ensures stop { (is : List Instance) → StopIs result (row opcode.DataInsertAtList args.entry.now here (records_in records.now) is (parts_of R.stream variables.old words.old)) }
+    ensures stop { StopIs result (row opcode.DataInsertAtList args.entry.now here (records_in records.now) [] (parts_of R.stream variables.old words.old)) }
     ensures kind { IfErr result IsOfWordsOrMemory }
 {
     let list = named(args, "LIST", here, records);
@@ -105,9 +106,9 @@ pub(crate) fn replace<R: Rng + Drop>(
     variables: &mut Variables,
     words: &mut Counted<R>,
 ) -> Result<(), Stop>
-    ensures ok { (is : List Instance) → OnOk result (row opcode.DataReplaceItemOfList args.entry.now here (records_in records.now) is (parts_of R.stream variables.old words.old) ≡ Goes (parts_of R.stream variables.new words.new)) }
+    ensures ok { OnOk result (row opcode.DataReplaceItemOfList args.entry.now here (records_in records.now) [] (parts_of R.stream variables.old words.old) ≡ Goes (parts_of R.stream variables.new words.new)) }
     ensures held { HasSameShape variables.old variables.new }
-    ensures stop { (is : List Instance) → StopIs result (row opcode.DataReplaceItemOfList args.entry.now here (records_in records.now) is (parts_of R.stream variables.old words.old)) }
+    ensures stop { StopIs result (row opcode.DataReplaceItemOfList args.entry.now here (records_in records.now) [] (parts_of R.stream variables.old words.old)) }
     ensures kind { IfErr result IsOfWordsOrMemory }
 {
     let list = named(args, "LIST", here, records);

@@ -2,10 +2,9 @@
 
 ghost use Rattle.std.specs.Prelude.{◌≡◌, codes, OnOk};
 ghost use Rattle.script_machine.specs.declared.variables.Shown.TheVariants as shown;
-ghost use Rattle.script_machine.specs.DataRows.{monitored, named as named_by, shown_as};
-ghost use Rattle.script_machine.specs.Outcome.{Goes};
+ghost use Rattle.script_machine.specs.DataRows.{named as named_by, shown_as};
+ghost use Rattle.script_machine.specs.Monitors.{monitor_set};
 ghost use Rattle.script_machine.specs.Stores.{instance_at};
-ghost use Rattle.script_machine.specs.Words.{Words};
 ghost use Rattle.target_records.specs.Records.{records_in};
 ghost use Rattle.variables.specs.Held.{HasSameShape};
 
@@ -36,7 +35,7 @@ pub(crate) fn show_variable(
     variables: &mut Variables,
     visible: bool,
 ) -> Result<(), AllocError>
-    ensures ok { (words : Words) → let v = named_by (codes "VARIABLE") args.entry.now here (records_in records.now) in OnOk result (monitored v (shown_as shown.Variable v targets.now) visible (record { variables = variables.old; words = words }) ≡ Goes (record { variables = variables.new; words = words })) }
+    ensures ok { let v = named_by (codes "VARIABLE") args.entry.now here (records_in records.now) in OnOk result (variables.new ≡ monitor_set (records_in records.now) (shown_as shown.Variable v targets.now) visible variables.old) }
     ensures held { HasSameShape variables.old variables.new }
 {
     let variable = named(args, "VARIABLE", here, records);
@@ -53,7 +52,7 @@ pub(crate) fn show_list(
     variables: &mut Variables,
     visible: bool,
 ) -> Result<(), AllocError>
-    ensures ok { (words : Words) → let l = named_by (codes "LIST") args.entry.now here (records_in records.now) in OnOk result (monitored l (shown_as shown.List l targets.now) visible (record { variables = variables.old; words = words }) ≡ Goes (record { variables = variables.new; words = words })) }
+    ensures ok { let l = named_by (codes "LIST") args.entry.now here (records_in records.now) in OnOk result (variables.new ≡ monitor_set (records_in records.now) (shown_as shown.List l targets.now) visible variables.old) }
     ensures held { HasSameShape variables.old variables.new }
 {
     let list = named(args, "LIST", here, records);

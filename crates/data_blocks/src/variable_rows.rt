@@ -1,13 +1,14 @@
 //! The blocks that change variables.
 
-ghost use Rattle.std.specs.Prelude.{◌≡◌, OnOk, List};
-ghost use Rattle.opcode_table.specs.declared.opcode.Opcode.TheVariants as opcode;
-ghost use Rattle.script_machine.specs.Outcome.{Goes};
-ghost use Rattle.script_machine.specs.Stores.{Instance};
-ghost use Rattle.script_machine.specs.Words.{Words};
+ghost use Rattle.std.specs.Prelude.{◌≡◌, codes, OnOk};
+ghost use Rattle.scratch_number.specs.Arithmetic.{add as sum_of};
+ghost use Rattle.scratch_values.specs.Casts.{number as number_of};
+ghost use Rattle.scratch_values.specs.declared.value.Value.TheVariants.{Number};
+ghost use Rattle.script_machine.specs.DataRows.{named as named_by, variable_set};
+ghost use Rattle.script_machine.specs.Stores.{value_of};
+ghost use Rattle.script_machine.specs.View.{number_at, value_at};
 ghost use Rattle.target_records.specs.Records.{records_in};
 ghost use Rattle.variables.specs.Held.{HasSameShape};
-ghost use Rattle.data_blocks.specs.Blocks.{row};
 
 use crate::arguments::{named, number, value};
 use scratch_values::Args;
@@ -24,7 +25,7 @@ pub(crate) fn set(
     records: &Records,
     variables: &mut Variables,
 ) -> Result<(), AllocError>
-    ensures ok { (is : List Instance) (words : Words) → OnOk result (row opcode.DataSetVariableTo args.entry.now here (records_in records.now) is (record { variables = variables.old; words = words }) ≡ Goes (record { variables = variables.new; words = words })) }
+    ensures ok { OnOk result (variables.new ≡ variable_set (named_by (codes "VARIABLE") args.entry.now here (records_in records.now)) (value_at (codes "VALUE") args.entry.now) variables.old) }
     ensures held { HasSameShape variables.old variables.new }
 {
     let variable = named(args, "VARIABLE", here, records);
@@ -41,7 +42,7 @@ pub(crate) fn change(
     records: &Records,
     variables: &mut Variables,
 )
-    ensures new { (is : List Instance) (words : Words) → row opcode.DataChangeVariableBy args.entry.now here (records_in records.now) is (record { variables = variables.old; words = words }) ≡ Goes (record { variables = variables.new; words = words }) }
+    ensures new { let v = named_by (codes "VARIABLE") args.entry.now here (records_in records.now) in variables.new ≡ variable_set v (Number (sum_of (number_of (value_of v.ref here (records_in records.now) variables.old)) (number_at (codes "VALUE") args.entry.now))) variables.old }
     ensures held { HasSameShape variables.old variables.new }
 {
     let variable = named(args, "VARIABLE", here, records);
