@@ -138,8 +138,8 @@ impl Table {
     pub(crate) fn clear(&mut self)
         ensures { self.new ≡ no_threads }
     {
-        self.detached = None;
         self.list.clear();
+        let _gone = self.detached.take();
     }
 
     // How many levels the threads of the list have.
