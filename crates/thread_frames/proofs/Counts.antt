@@ -1,5 +1,5 @@
 -- How many levels are open where a thread is changed.
-use Rattle.std.proofs.Common.{◌≡◌, ℕ, ◌+◌, ◌-◌, ◌<◌, ◌≤◌, zero, suc, List, [], ◌∷◌, ◌++◌, length, set, get_or, sym, ap, ◌∙◌, arith, Some, None, Option, slice_get, refl, inl, inr}
+use Rattle.std.proofs.Common.{◌≡◌, ℕ, ◌+◌, ◌-◌, ◌<◌, ◌≤◌, zero, suc, List, [], ◌∷◌, length, set, sym, ap, ◌∙◌, arith, Some, slice_get, refl, inl, inr}
 use Rattle.std.specs.Prelude.{sum_by, not}
 use Rattle.std.proofs.lemmas.List.Filters.{sum_by-filter_both}
 use Rattle.script_machine.specs.Threads.{is_done}
@@ -8,7 +8,6 @@ use Rattle.std.proofs.lemmas.List.Sums.{sum_by-set}
 use Rattle.std.proofs.lemmas.Option.{slice_get_within, get_or_from_slice_get}
 use Rattle.script_machine.specs.declared.threads.Which.{Which}
 use Rattle.script_machine.specs.declared.threads.Which.TheVariants.{Slot, Detached}
-use Rattle.script_machine.specs.Outcome.{most_levels}
 use Rattle.script_machine.specs.Places.{Places, at_place, put, sum_some}
 use Rattle.thread_frames.specs.declared.level.Level.{Level}
 use Rattle.thread_frames.specs.Levels.{on_top, without_top, is_called, from_call, unwound}

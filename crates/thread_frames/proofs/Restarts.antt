@@ -1,9 +1,9 @@
 -- A thread that is replaced in its slot, as the code counts.
-use Rattle.std.proofs.Common.{◌≡◌, ℕ, ◌+◌, ◌-◌, ◌<◌, ◌≤◌, length, true, false, cond, sym, ap, ap₂, ◌∙◌, arith, Some, Option, slice_get}
-use Rattle.std.specs.Prelude.{nat_lt, sum_by, slice_set}
+use Rattle.std.proofs.Common.{◌≡◌, ℕ, ◌+◌, ◌-◌, ◌<◌, ◌≤◌, length, false, cond, sym, ap, ◌∙◌, arith, Some, Option, slice_get}
+use Rattle.std.specs.Prelude.{sum_by, slice_set}
 use Rattle.std.proofs.lemmas.Bool.{lt-ltb, le-ltb}
 use Rattle.script_machine.specs.declared.threads.Which.TheVariants.{Slot}
-use Rattle.script_machine.specs.Outcome.{Outcome, Goes, Full, with_room, most_levels}
+use Rattle.script_machine.specs.Outcome.{Goes, Full, with_room, most_levels}
 use Rattle.script_machine.specs.Places.{Places, put, put_some, sum_some}
 use Rattle.thread_frames.specs.Threads.{Thread, again, finish, without_detached}
 use Rattle.thread_frames.specs.Restarting.{restarted, restarted_by}

@@ -13,3 +13,6 @@ pub use levels::Levels;
 pub use stops::PushStop;
 pub use thread::Thread;
 pub use threads::Threads;
+
+#[cfg(test)]
+mod tests;

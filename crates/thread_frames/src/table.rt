@@ -1,6 +1,6 @@
 //! The threads in their places.
 
-ghost use Rattle.std.specs.Prelude.{◌≡◌, ◌==◌, ◌&&◌, ◌<◌, ◌≤◌, ◌∷◌, ◌++◌, [], length, slice_get, slice_set, position, sum_by, Some, None, is_some, OnOk, OnErr};
+ghost use Rattle.std.specs.Prelude.{◌≡◌, ◌==◌, ◌&&◌, ◌<◌, ◌≤◌, ◌∷◌, ◌++◌, [], length, slice_get, slice_set, position, find, sum_by, Some, None, is_some, OnOk, OnErr};
 ghost use Rattle.std.specs.Borrow.{sem};
 ghost use Rattle.std.specs.List.{list_any};
 ghost use Rattle.std.specs.Option.{option_map, option_copied};
@@ -138,8 +138,8 @@ impl Table {
     pub(crate) fn clear(&mut self)
         ensures { self.new ≡ no_threads }
     {
-        self.detached = None;
         self.list.clear();
+        let _gone = self.detached.take();
     }
 
     // How many levels the threads of the list have.
@@ -152,6 +152,13 @@ impl Table {
             count += thread.levels().depth();
         }
         count
+    }
+
+    // The first listed thread with the number.
+    pub(crate) fn find(&self, serial: Serial) -> Option<&Thread>
+        ensures { option_copied result ≡ find (λ t. t.serial == serial) self.now.list }
+    {
+        self.list.iter().find(|thread| thread.serial() == serial)
     }
 
     // The first slot whose thread has the number.

@@ -1,14 +1,15 @@
 //! The threads of a run.
 
-ghost use Rattle.std.specs.Prelude.{◌≡◌, ℕ, ◌==◌, ◌+◌, ◌≤◌, [], ◌∷◌, length, nat_lt, true, false, Some, None, slice_get, position, OnOk, OnErr, IfOk};
+ghost use Rattle.std.specs.Prelude.{◌≡◌, ℕ, ◌==◌, ◌+◌, ◌≤◌, [], ◌∷◌, length, nat_lt, true, false, Some, None, slice_get, position, find, OnOk, OnErr, IfOk};
 ghost use Rattle.std.specs.List.{list_any};
 ghost use Rattle.std.specs.Option.{option_copied, option_map};
 ghost use Rattle.script_machine.specs.declared.threads.Context.TheVariants.{Fresh};
+ghost use Rattle.script_machine.specs.Threads.{among, wait_for as wait_for_by};
 ghost use Rattle.script_machine.specs.Outcome.{Goes, with_room, most_levels};
 ghost use Rattle.script_machine.specs.Places.{Places, at_place, on_place, place};
 ghost use Rattle.script_machine.specs.Starting.{open_levels, appended, finished_of, is_spared as is_spared_by};
 ghost use Rattle.thread_frames.specs.Levels.{new_level, at_next, with_loop, with_context, with_params, on_top, without_top, top_context, near_params, unwound};
-ghost use Rattle.thread_frames.specs.Threads.{frames, no_threads, without_detached, without_done, new_thread, is_of, is_alive_of, on_levels, levels_of, with_status, finish as finished};
+ghost use Rattle.thread_frames.specs.Threads.{frames, listed, no_threads, without_detached, without_done, new_thread, is_of, is_alive_of, on_levels, levels_of, with_status, finish as finished};
 ghost use Rattle.thread_frames.specs.Restarting.{restarted};
 ghost use Rattle.thread_frames.specs.Stopping.{stopped, is_some_stopped};
 ghost use Rattle.thread_frames.specs.Stops.{PushStopIs};
@@ -19,7 +20,9 @@ use crate::stops::PushStop;
 use crate::table::Table;
 use crate::thread::Thread;
 use scratch_values::Params;
-use script_machine::{BlockId, Boxed, Context, InstanceId, Serial, Status, TargetId, Which};
+use script_machine::{
+    BlockId, Boxed, Context, Control, InstanceId, Serial, Status, TargetId, Which,
+};
 use std::alloc::{AllocError, Global};
 use std::marker::Model;
 use std::mem;
@@ -146,6 +149,38 @@ impl Threads {
         ensures { result ≡ list_any (is_alive_of of hat) self.now.list }
     {
         self.table.is_any_alive(of, hat)
+    }
+
+    /// How the first listed thread with the number stands; None exactly where none is listed.
+    pub fn status_of(&self, serial: Serial) -> Option<Status>
+        ensures { result ≡ option_map (λ t. t.status) (find (λ t. t.serial == serial) (listed self.now)) }
+    {
+        match self.table.find(serial) {
+            Some(thread) => Some(thread.status()),
+            None => None,
+        }
+    }
+
+    /// What a block does that waits for started threads: it goes on where none is listed, ticks where none of them can run,
+    /// else yields.
+    pub fn wait_for(&self, serials: &[Serial]) -> Control
+        ensures { result ≡ wait_for_by (among (listed self.now) serials.now) }
+    {
+        let mut is_listed = false;
+        for serial in serials {
+            match self.status_of(*serial) {
+                Some(Status::Running) => return Control::Yield,
+                Some(Status::YieldTick) => is_listed = true,
+                Some(Status::PromiseWait) => is_listed = true,
+                Some(Status::Done) => is_listed = true,
+                None => {}
+            }
+        }
+        if is_listed {
+            Control::YieldTick
+        } else {
+            Control::Next
+        }
     }
 
     /// Appends a thread with one level. Full exactly where 65,536 levels are open. After an error nothing is changed.

@@ -1,6 +1,6 @@
 use Rattle.std.proofs.Common.{rules, ap, None, List}
 use Rattle.std.proofs.lemmas.Fn.{filter_same}
-use Rattle.thread_frames.specs.Threads.{without_done, Thread}
+use Rattle.thread_frames.specs.Threads.{Thread}
 use Rattle.thread_frames.proofs.table.Table.remove_done.Goals as goal
 
 pub returns : goal.returns

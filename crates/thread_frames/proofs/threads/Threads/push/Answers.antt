@@ -1,5 +1,4 @@
 use Rattle.std.proofs.Common.{length, sym, ap, ◌∙◌}
-use Rattle.thread_frames.specs.Levels.{new_level}
 use Rattle.thread_frames.proofs.Counts.{same_count, more_count, put_same}
 use Rattle.thread_frames.proofs.threads.Threads.push.Goals as goal
 

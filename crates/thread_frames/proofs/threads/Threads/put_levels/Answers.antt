@@ -1,6 +1,4 @@
 use Rattle.std.proofs.Common.{◌≡◌, length, ap, sym, ◌∙◌, arith}
-use Rattle.script_machine.specs.Places.{Places}
-use Rattle.thread_frames.specs.Threads.{Thread}
 use Rattle.thread_frames.specs.Counting.{open_in}
 use Rattle.thread_frames.proofs.Counts.{own_count, put_count}
 use Rattle.thread_frames.proofs.threads.Threads.put_levels.Goals as goal

@@ -1,7 +1,4 @@
-use Rattle.std.proofs.Common.{◌≡◌, ◌≤◌, length, ap, arith}
-use Rattle.std.specs.Prelude.{sum_by}
-use Rattle.script_machine.specs.Places.{Places}
-use Rattle.thread_frames.specs.Threads.{Thread}
+use Rattle.std.proofs.Common.{arith}
 use Rattle.thread_frames.proofs.Counts.{listed_count, done_count}
 use Rattle.thread_frames.proofs.threads.Threads.remove_done.Goals as goal
 
