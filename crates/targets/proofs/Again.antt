@@ -1,13 +1,12 @@
 -- The recorded values of an instance, taken out and put back.
-use Rattle.std.proofs.Common.{◌≡◌, ℕ, ◌<◌, List, length, get_or, set, Option, Some, None, Bool, refl, sym, ap, ◌∙◌}
+use Rattle.std.proofs.Common.{◌≡◌, ℕ, List, get_or, set, Option, Some, None, Bool, refl, sym, ap, ◌∙◌}
 use Rattle.std.specs.Prelude.{◌==◌}
 use Rattle.std.specs.List.{position}
 use Rattle.std.proofs.lemmas.List.{set-set, set-get_or, get_or-set_same}
 use Rattle.script_machine.specs.declared.instance.Instance.{Instance}
 use Rattle.script_machine.specs.Stores.{no_instance, instance_at, on_instance}
-use Rattle.targets.specs.Live.{IsLive}
 use Rattle.targets.proofs.Places.{position_is, position-set}
-use Rattle.targets.proofs.Cast.{on_instance_is, instance_at_is, live_is_placed}
+use Rattle.targets.proofs.Cast.{on_instance_is, on_instance_none, instance_at_is}
 
 abbrev Edges : Type 0
 Edges = List (ℕ × Bool)
@@ -35,22 +34,23 @@ again_at n a b f is k p e =
     ∙ set-set is k (with_edges a i) (with_edges b i)
     ∙ ap (λ (es : Edges). set is k (with_edges es i)) edges
 
-changed_by_place : (n : ℕ) (a b : Edges) (f : Edges → Edges) (is : List Instance) (o : Option ℕ) → place_of n is ≡ o → IsLive n is → b ≡ f (instance_at n is).edges
+changed_by_place : (n : ℕ) (a b : Edges) (f : Edges → Edges) (is : List Instance) (o : Option ℕ) → place_of n is ≡ o → b ≡ f (instance_at n is).edges
     → on_instance n (with_edges b) (on_instance n (with_edges a) is) ≡ on_instance n (changing f) is
-changed_by_place n a b f is (Some k) p h e = again_at n a b f is k p e ∙ sym (on_instance_is n (changing f) is k no_instance p)
-changed_by_place n a b f is None p h e = absurd (live_is_placed n is h p)
+changed_by_place n a b f is (Some k) p e = again_at n a b f is k p e ∙ sym (on_instance_is n (changing f) is k no_instance p)
+changed_by_place n a b f is None p e =
+    ap (on_instance n (with_edges b)) (on_instance_none n (with_edges a) is p) ∙ on_instance_none n (with_edges b) is p ∙ sym (on_instance_none n (changing f) is p)
 
 -- the values are taken out, changed, and put back
-pub put_changed : (n : ℕ) (a b : Edges) (f : Edges → Edges) (is v w : List Instance) → IsLive n is → v ≡ on_instance n (with_edges a) is → w ≡ on_instance n (with_edges b) v → b ≡ f (instance_at n is).edges
+pub put_changed : (n : ℕ) (a b : Edges) (f : Edges → Edges) (is v w : List Instance) → v ≡ on_instance n (with_edges a) is → w ≡ on_instance n (with_edges b) v → b ≡ f (instance_at n is).edges
     → w ≡ on_instance n (λ i. record i { edges = f i.edges }) is
-put_changed n a b f is v w h e g to =
-    g ∙ ap (on_instance n (with_edges b)) e ∙ changed_by_place n a b f is (place_of n is) refl h to
+put_changed n a b f is v w e g to =
+    g ∙ ap (on_instance n (with_edges b)) e ∙ changed_by_place n a b f is (place_of n is) refl to
 
-same_by_place : (n : ℕ) (is : List Instance) (o : Option ℕ) → place_of n is ≡ o → IsLive n is → on_instance n (changing (λ es. es)) is ≡ is
-same_by_place n is (Some k) p h = on_instance_is n (changing (λ es. es)) is k no_instance p ∙ set-get_or is k no_instance
-same_by_place n is None p h = absurd (live_is_placed n is h p)
+same_by_place : (n : ℕ) (is : List Instance) (o : Option ℕ) → place_of n is ≡ o → on_instance n (changing (λ es. es)) is ≡ is
+same_by_place n is (Some k) p = on_instance_is n (changing (λ es. es)) is k no_instance p ∙ set-get_or is k no_instance
+same_by_place n is None p = on_instance_none n (changing (λ es. es)) is p
 
 -- the values are taken out and put back
-pub put_back : (n : ℕ) (a b : Edges) (is v w : List Instance) → IsLive n is → v ≡ on_instance n (with_edges a) is → w ≡ on_instance n (with_edges b) v → b ≡ (instance_at n is).edges → w ≡ is
-put_back n a b is v w h e g to =
-    put_changed n a b (λ es. es) is v w h e g to ∙ same_by_place n is (place_of n is) refl h
+pub put_back : (n : ℕ) (a b : Edges) (is v w : List Instance) → v ≡ on_instance n (with_edges a) is → w ≡ on_instance n (with_edges b) v → b ≡ (instance_at n is).edges → w ≡ is
+put_back n a b is v w e g to =
+    put_changed n a b (λ es. es) is v w e g to ∙ same_by_place n is (place_of n is) refl

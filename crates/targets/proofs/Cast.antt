@@ -1,11 +1,12 @@
 -- Instances that are found by their number, and one of them changed.
-use Rattle.std.proofs.Common.{◌≡◌, ℕ, zero, suc, ◌+◌, ◌<◌, ◌≤◌, List, [], ◌∷◌, ◌++◌, length, get_or, set, map, Option, Some, None, IsSome, Bool, true, false, not, cond, refl, sym, subst, ap, ap₂, ◌∙◌, arith}
+use Rattle.std.proofs.Common.{◌≡◌, ℕ, zero, suc, ◌+◌, List, [], ◌∷◌, get_or, set, map, Option, Some, None, IsSome, Bool, true, false, not, cond, refl, sym, subst, ap, ap₂, ◌∙◌}
 use Rattle.std.specs.Prelude.{◌==◌, nat_lt, unwrap_or, option_map, is_some, IsTrue}
-use Rattle.std.specs.List.{position, position_or_len, prefix_len, find}
+use Rattle.std.specs.List.{position, prefix_len, find}
 use Rattle.std.proofs.lemmas.List.{length-map}
 use Rattle.std.proofs.Math.Seq.{map-set_same}
 use Rattle.script_machine.specs.declared.instance.Instance.{Instance}
 use Rattle.script_machine.specs.Stores.{live, instance_at, no_instance, on_instance}
+use Rattle.script_machine.specs.Lists.{changed_at_some}
 use Rattle.script_machine.specs.declared.bubble.Bubble.{Bubble}
 use Rattle.targets.specs.Changes.{changed_by}
 use Rattle.targets.specs.declared.changes.Change.{Change}
@@ -30,6 +31,19 @@ live_is_placed n is h e = let f = find_none (λ (i : Instance). i.number == n) i
 
 pub on_instance_is : (n : ℕ) (f : Instance → Instance) (is : List Instance) (k : ℕ) (d : Instance) → position (λ i. i.number == n) is ≡ Some k → on_instance n f is ≡ set is k (f (get_or is k d))
 on_instance_is n f is k d e = first_changed_is (λ i. i.number == n) f is k d e
+
+-- where none is live there is no instance, and nothing is changed
+pub instance_at_none : (n : ℕ) (is : List Instance) → position (λ i. i.number == n) is ≡ None → instance_at n is ≡ no_instance
+instance_at_none n is e = ap (λ o. unwrap_or o no_instance) (find_none (λ i. i.number == n) is e)
+
+pub on_instance_none : (n : ℕ) (f : Instance → Instance) (is : List Instance) → position (λ i. i.number == n) is ≡ None → on_instance n f is ≡ is
+on_instance_none n f is e = ap (λ o. changed_at_some f o is) e
+
+pub cast_same : (is : List Instance) → IsSameCast is is
+cast_same is = record { order = refl; targets = λ n. refl; live = λ n l. l }
+
+pub cast_none : (n : ℕ) (f : Instance → Instance) (is : List Instance) → position (λ i. i.number == n) is ≡ None → IsSameCast is (on_instance n f is)
+cast_none n f is e = let P : List Instance → Type 0 = IsSameCast is in subst P (sym (on_instance_none n f is e)) (cast_same is)
 
 -- the code's old and new instances, where one was changed at its place
 pub changed_is : (n : ℕ) (f : Instance → Instance) (old is : List Instance) (k : ℕ) (s t : Instance) → old ≡ is → position (λ i. i.number == n) is ≡ Some k → s ≡ get_or old k s → t ≡ f s → set old k t ≡ on_instance n f is

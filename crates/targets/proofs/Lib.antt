@@ -1,5 +1,6 @@
 pub mod Again
 pub mod Cast
+pub mod Hinted
 pub mod Layering
 pub mod Moves
 pub mod Places

@@ -1,5 +1,4 @@
 -- What a change makes of an instance; private functions alone cite it.
-use Rattle.std.specs.Prelude.{ℕ}
 use Rattle.script_machine.specs.declared.instance.Instance.{Instance}
 use Rattle.script_machine.specs.Effects.{effect_place, no_effects}
 use Rattle.script_machine.specs.Motion.{facing, at_point}

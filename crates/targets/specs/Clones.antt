@@ -1,5 +1,5 @@
 -- Which instances can be cloned.
-use Rattle.std.specs.Prelude.{ℕ, ◌+◌, ◌==◌, nat_lt, List, [], ◌∷◌, length, Bool, true, false, not, ◌||◌, count_by}
+use Rattle.std.specs.Prelude.{ℕ, ◌+◌, ◌==◌, nat_lt, List, [], ◌∷◌, length, Bool, false, not, ◌||◌, count_by}
 use Rattle.script_machine.specs.declared.instance.Instance.{Instance}
 use Rattle.script_machine.specs.Program.{Records}
 use Rattle.script_machine.specs.Stores.{instance_at, is_on_stage}

@@ -1,5 +1,5 @@
 -- Live instances, and what stays of them where some are changed.
-use Rattle.std.specs.Prelude.{◌≡◌, ℕ, ◌==◌, List, length, map, IsSome, Option, option_map}
+use Rattle.std.specs.Prelude.{◌≡◌, ℕ, List, map, IsSome, Option, option_map}
 use Rattle.script_machine.specs.declared.instance.Instance.{Instance}
 use Rattle.script_machine.specs.Stores.{live}
 

@@ -31,10 +31,12 @@ pub(crate) enum Change {
     Style(Style),
 }
 
-// Makes a change.
-pub(crate) fn make(instance: &mut Instance, change: Change)
-    ensures { instance.new ≡ changed_by change instance.old }
+// Makes a change, and tells whether the instance was visible.
+pub(crate) fn make(instance: &mut Instance, change: Change) -> bool
+    ensures visible { result ≡ instance.old.visible }
+    ensures new { instance.new ≡ changed_by change instance.old }
 {
+    let visible = instance.visible;
     match change {
         Change::Place { x, y } => {
             instance.x = x;
@@ -50,6 +52,7 @@ pub(crate) fn make(instance: &mut Instance, change: Change)
         Change::Visible(visible) => instance.visible = visible,
         Change::Style(style) => instance.style = style,
     }
+    visible
 }
 
 // The number of an effect in its range: ghost from 0 to 100, brightness from -100 to 100.
@@ -99,11 +102,13 @@ pub(crate) fn clear(instance: &mut Instance, alloc: Global)
     instance.bubble.text = BubbleText::new(alloc);
 }
 
-// Sets the bubble.
-pub(crate) fn say(instance: &mut Instance, bubble: Bubble)
-    ensures { instance.new ≡ record instance.old { bubble = bubble } }
+// Sets the bubble, and tells whether the instance is visible.
+pub(crate) fn say(instance: &mut Instance, bubble: Bubble) -> bool
+    ensures visible { result ≡ instance.old.visible }
+    ensures new { instance.new ≡ record instance.old { bubble = bubble } }
 {
     instance.bubble = bubble;
+    instance.visible
 }
 
 // Puts recorded values in place of those of an instance, and gives these.

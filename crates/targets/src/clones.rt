@@ -2,12 +2,12 @@
 
 ghost use Rattle.std.specs.Prelude.{◌≡◌, ◌<◌, ◌+◌, ◌||◌, ◌&&◌, bytes_eq, position, nat_lt, not, length, slice_index_or};
 ghost use Rattle.script_machine.specs.Stopping.{most_clones};
-ghost use Rattle.script_machine.specs.Stores.{is_on_stage as on_stage};
+ghost use Rattle.script_machine.specs.Program.{record_at};
 ghost use Rattle.target_records.specs.Records.{records_in};
 ghost use Rattle.targets.specs.Clones.{clones_in, is_of_first};
 ghost use Rattle.script_machine.specs.declared.instance.Instance.{Instance};
 
-use script_machine::{Instance, TargetRecord};
+use script_machine::{Instance, TargetId, TargetRecord};
 use target_records::Records;
 
 // The most clones.
@@ -44,25 +44,24 @@ pub(crate) fn is_full(instances: &[Instance], place: usize) -> bool
     is_of_first(&instances[place], instances)
 }
 
-// Whether an instance is on the stage.
-fn is_on_stage(instance: &Instance, records: &Records) -> bool
-    ensures { result ≡ on_stage instance.now (records_in records.now) }
+// Whether a target is the stage.
+pub(crate) fn is_stage(target: TargetId, records: &Records) -> bool
+    ensures { result ≡ (record_at target (records_in records.now)).is_stage }
 {
-    if instance.of.0 >= records.targets() {
+    if target.0 >= records.targets() {
         return false;
     }
-    records.target(instance.of).is_stage
+    records.target(target).is_stage
 }
 
-// Whether a clone of the instance at a place can be made.
-pub(crate) fn has_room(instances: &[Instance], place: usize, records: &Records) -> bool
-    requires { place < length instances.now }
-    ensures { (d : Instance) → result ≡ not (not (nat_lt (length instances.now) (length (records_in records.now).targets + most_clones)) || on_stage (slice_index_or instances.now place d) (records_in records.now)) }
+// Whether a clone of an instance of a target can be made, where there are so many instances.
+pub(crate) fn has_room(instances: usize, target: TargetId, records: &Records) -> bool
+    ensures { result ≡ not (not (nat_lt instances (length (records_in records.now).targets + most_clones)) || (record_at target (records_in records.now)).is_stage) }
 {
-    if instances.len() >= records.targets() as usize + MOST {
+    if instances >= records.targets() as usize + MOST {
         return false;
     }
-    !is_on_stage(&instances[place], records)
+    !is_stage(target, records)
 }
 
 // The place of the first sprite of a name.

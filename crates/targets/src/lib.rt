@@ -5,6 +5,7 @@ mod changes;
 mod clones;
 mod edges;
 mod first;
+mod hints;
 mod layers;
 mod order;
 mod state;

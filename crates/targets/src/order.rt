@@ -1,22 +1,106 @@
 //! The executable order: the numbers of the instances.
 
-ghost use Rattle.std.specs.Prelude.{◌≡◌, ◌==◌, ◌≤◌, ◌<◌, length, slice_index_or, vec_len, vec_capacity, position};
+ghost use Rattle.std.specs.Prelude.{◌≡◌, ◌==◌, ◌≤◌, ◌<◌, ◌++◌, ◌∷◌, [], length, slice_index_or, vec_len, vec_capacity, position, IfOk, OnOk, OnErr};
 ghost use Rattle.std.specs.List.{insert, remove};
 ghost use Rattle.script_machine.specs.declared.instance.Instance.{Instance};
 ghost use Rattle.script_machine.specs.Stopping.{inserted_behind};
 ghost use Rattle.targets.specs.Live.{numbers};
 
+use crate::hints;
 use lists::ListOf;
 use script_machine::{Instance, InstanceId};
+use std::alloc::{AllocError, Global};
+use std::marker::Model;
+use std::mem;
 
 /// Numbers of instances, in order.
 pub type Ids = ListOf<InstanceId>;
 
-// The first place of a number.
-pub(crate) fn place(order: &[InstanceId], id: InstanceId) -> Option<usize>
+// The first place of a number, sought from the front.
+fn sought(order: &[InstanceId], id: InstanceId) -> Option<usize>
     ensures { result ≡ position (λ n. n == id) order.now }
 {
     order.iter().position(|own| *own == id)
+}
+
+// The executable order. Contracts see the list of the numbers. For the remainder of each number it keeps a place that is
+// not behind the first place of the number: most numbers are found there, and the others are sought.
+#[derive(Drop)]
+pub(crate) struct Order {
+    ids: Ids,
+    hints: Vec<usize>,
+}
+
+impl Model for Order {
+    ghost use Rattle.std.specs.Prelude.{◌≡◌, List, ℕ, length};
+    ghost use Rattle.targets.specs.Hints.{slots, IsHinted};
+
+    ghost Value = { List ℕ };
+
+    ghost view = { λ o. o.ids };
+
+    ghost invariant = { λ o. (length o.hints.items ≡ slots) × IsHinted o.hints.items o.ids };
+}
+
+impl Order {
+    // These numbers in order. The only error is want of memory.
+    pub(crate) fn open(alloc: Global, ids: Ids) -> Result<Order, AllocError>
+        ensures { IfOk result (λ order. order ≡ ids) }
+    {
+        let mut hints = hints::none(alloc)?;
+        hints::note(&mut hints, ids.as_slice());
+        Ok(Order { ids, hints })
+    }
+
+    // The numbers in order.
+    pub(crate) fn ids(&self) -> &Ids
+        ensures { result.now ≡ self.now }
+    {
+        &self.ids
+    }
+
+    // The first place of a number.
+    #[inline]
+    pub(crate) fn place(&self, id: InstanceId) -> Option<usize>
+        ensures { result ≡ position (λ n. n == id) self.now }
+    {
+        let guess = self.hints[hints::slot(id)];
+        match self.ids.get(guess) {
+            Some(own) => {
+                if *own == id {
+                    return Some(guess);
+                }
+            }
+            None => {}
+        }
+        sought(self.ids.as_slice(), id)
+    }
+
+    // Takes all numbers out.
+    pub(crate) fn take(&mut self, alloc: Global) -> Vec<InstanceId>
+        ensures ids { result.items ≡ self.old }
+        ensures new { self.new ≡ [] }
+    {
+        mem::replace(&mut self.ids, Ids::new(alloc)).into_vec()
+    }
+
+    // Puts numbers in place of those that are there.
+    pub(crate) fn put(&mut self, ids: Vec<InstanceId>)
+        ensures { self.new ≡ ids.items }
+    {
+        self.ids = Ids::from_vec(ids);
+        hints::note(&mut self.hints, self.ids.as_slice());
+    }
+
+    // Appends a number. The only error is want of memory, and then nothing changes.
+    pub(crate) fn push(&mut self, id: InstanceId) -> Result<(), AllocError>
+        ensures ok { OnOk result (self.new ≡ self.old ++ id ∷ []) }
+        ensures err { OnErr result (self.new ≡ self.old) }
+    {
+        self.ids.push(id)?;
+        hints::note(&mut self.hints, self.ids.as_slice());
+        Ok(())
+    }
 }
 
 // Puts an item at a place, where there is room for one more.
@@ -55,7 +139,7 @@ pub(crate) fn put_behind(
 {
     let id = order.remove(from);
     let instance = instances.remove(from);
-    match place(order.as_slice(), original) {
+    match sought(order.as_slice(), original) {
         Some(to) => {
             put(order, to, id);
             put(instances, to, instance);

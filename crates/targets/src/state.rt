@@ -11,7 +11,7 @@ ghost use Rattle.script_machine.specs.Lists.{first_removed};
 ghost use Rattle.script_machine.specs.Looks.{with_effect, with_size, with_costume, at_layer, layer};
 ghost use Rattle.script_machine.specs.Motion.{facing, at_point};
 ghost use Rattle.script_machine.specs.Stopping.{copied, placed_behind, cleared};
-ghost use Rattle.script_machine.specs.Stores.{live, instance_at, on_instance};
+ghost use Rattle.script_machine.specs.Stores.{live, instance_at, on_instance, is_on_stage};
 ghost use Rattle.targets.specs.Changes.{changed_by};
 ghost use Rattle.script_machine.specs.Program as program;
 ghost use Rattle.target_records.specs.Records.{records_in};
@@ -23,23 +23,23 @@ ghost use Rattle.targets.specs.Live.{IsLive, IsSameCast, target_of, numbers};
 
 use crate::changes::{self, Change};
 use crate::layers::{self, Place};
-use crate::order::{self, Ids};
+use crate::order::{self, Ids, Order};
 use crate::{clones, edges, first};
 use scratch_number::Num;
 use script_machine::{
-    BlockId, Bubble, BubbleText, Edges, Effect, Instance, InstanceId, Say, Style,
+    BlockId, Bubble, BubbleText, Edges, Effect, Instance, InstanceId, Say, Style, TargetId,
 };
 use std::alloc::{AllocError, Global};
 use std::marker::Model;
-use std::mem;
 use target_records::Records;
 
-/// The instances in executable order. Contracts see the list of them.
+/// The instances in executable order. Contracts see the list of them. A call that changes one instance changes nothing, and
+/// requests no redraw that hangs on its being visible, where none of that number is live.
 #[derive(Drop)]
 pub struct Targets {
     alloc: Global,
     instances: Vec<Instance>,
-    order: Ids,
+    order: Order,
 }
 
 impl Model for Targets {
@@ -63,7 +63,7 @@ impl Targets {
         // There are fewer than 2^32 targets.
         let _count = records.targets();
         let instances = first::instances(alloc, records.all_targets())?;
-        let order = first::numbers_of(alloc, instances.as_slice())?;
+        let order = Order::open(alloc, first::numbers_of(alloc, instances.as_slice())?)?;
         Ok(Targets {
             alloc,
             instances,
@@ -76,14 +76,14 @@ impl Targets {
     fn place(&self, id: InstanceId) -> Option<usize>
         ensures { result ≡ position (λ i. i.number == id) self.now }
     {
-        order::place(self.order.as_slice(), id)
+        self.order.place(id)
     }
 
     /// The numbers of the instances in executable order.
     pub fn order(&self) -> &Ids
         ensures { result.now ≡ numbers self.now }
     {
-        &self.order
+        self.order.ids()
     }
 
     /// The instances in executable order.
@@ -111,160 +111,142 @@ impl Targets {
         self.place(id).is_some()
     }
 
-    // Changes an instance.
-    fn change(&mut self, id: InstanceId, change: Change)
-        requires { IsLive id self.old }
+    // The target of an instance, and the first where none is live.
+    fn target(&self, id: InstanceId) -> TargetId
+        ensures { result ≡ (instance_at id self.now).of }
+    {
+        match self.place(id) {
+            Some(place) => self.instances[place].of,
+            None => TargetId(0),
+        }
+    }
+
+    /// Whether an instance is on the stage; where none is live, whether the first target is the stage. The records are
+    /// those with which the run began.
+    #[inline]
+    pub fn is_on_stage(&self, records: &Records, id: InstanceId) -> bool
+        ensures { result ≡ is_on_stage (instance_at id self.now) (records_in records.now) }
+    {
+        clones::is_stage(self.target(id), records)
+    }
+
+    // Changes an instance, and tells whether it was visible. Where none is live nothing changes, and none is visible.
+    fn change(&mut self, id: InstanceId, change: Change) -> bool
+        ensures visible { result ≡ (instance_at id self.old).visible }
         ensures new { self.new ≡ on_instance id (changed_by change) self.old }
         ensures kept { IsSameCast self.old self.new }
     {
         match self.place(id) {
             Some(place) => changes::make(&mut self.instances[place], change),
-            None => unreachable!(),
-        }
-    }
-
-    // Whether an instance is visible.
-    fn is_visible(&self, id: InstanceId) -> bool
-        requires { IsLive id self.now }
-        ensures { result ≡ (instance_at id self.now).visible }
-    {
-        match self.place(id) {
-            Some(place) => self.instances[place].visible,
-            None => unreachable!(),
+            None => false,
         }
     }
 
     /// Moves an instance. A redraw is requested where it is visible.
     pub fn set_xy(&mut self, id: InstanceId, x: Num, y: Num) -> bool
-        requires { IsLive id self.old }
         ensures redraw { result ≡ (instance_at id self.old).visible }
         ensures new { self.new ≡ on_instance id (at_point (record { x = x; y = y })) self.old }
         ensures kept { IsSameCast self.old self.new }
     {
-        let visible = self.is_visible(id);
-        self.change(id, Change::Place { x, y });
-        visible
+        self.change(id, Change::Place { x, y })
     }
 
     /// Turns an instance; a direction that is not finite changes nothing. A redraw is requested where it is visible.
     pub fn set_direction(&mut self, id: InstanceId, d: Num) -> bool
-        requires { IsLive id self.old }
         ensures redraw { result ≡ (instance_at id self.old).visible }
         ensures new { self.new ≡ on_instance id (facing d) self.old }
         ensures kept { IsSameCast self.old self.new }
     {
-        let visible = self.is_visible(id);
-        self.change(id, Change::Direction(d));
-        visible
+        self.change(id, Change::Direction(d))
     }
 
     /// Sets the size of an instance, kept in 0 to 10000. A redraw is requested where it is visible.
     pub fn set_size(&mut self, id: InstanceId, s: Num) -> bool
-        requires { IsLive id self.old }
         ensures redraw { result ≡ (instance_at id self.old).visible }
         ensures new { self.new ≡ on_instance id (with_size s) self.old }
         ensures kept { IsSameCast self.old self.new }
     {
-        let visible = self.is_visible(id);
-        self.change(id, Change::Size(s));
-        visible
+        self.change(id, Change::Size(s))
     }
 
     /// Sets the costume of an instance by an index from 0, rounded and wrapped to the number of its costumes. A redraw is
     /// requested where it is visible.
     pub fn set_costume(&mut self, id: InstanceId, index: Num, costumes: u32) -> bool
-        requires { IsLive id self.old }
         ensures redraw { result ≡ (instance_at id self.old).visible }
         ensures new { self.new ≡ on_instance id (with_costume (costume.costume_index costumes index)) self.old }
         ensures kept { IsSameCast self.old self.new }
     {
-        let visible = self.is_visible(id);
-        self.change(id, Change::Costume { index, costumes });
-        visible
+        self.change(id, Change::Costume { index, costumes })
     }
 
     /// Sets an effect of an instance; ghost is kept in 0 to 100 and brightness in -100 to 100. A redraw is requested where
     /// it is visible.
     pub fn set_effect(&mut self, id: InstanceId, e: Effect, v: Num) -> bool
-        requires { IsLive id self.old }
         ensures redraw { result ≡ (instance_at id self.old).visible }
         ensures new { self.new ≡ on_instance id (with_effect (effect_place e) v) self.old }
         ensures kept { IsSameCast self.old self.new }
     {
-        let visible = self.is_visible(id);
-        self.change(id, Change::Effect(e, v));
-        visible
+        self.change(id, Change::Effect(e, v))
     }
 
     /// Sets all effects of an instance to 0. A redraw is requested where it is visible.
     pub fn clear_effects(&mut self, id: InstanceId) -> bool
-        requires { IsLive id self.old }
         ensures redraw { result ≡ (instance_at id self.old).visible }
         ensures new { self.new ≡ on_instance id (λ i. record i { effects = no_effects }) self.old }
         ensures kept { IsSameCast self.old self.new }
     {
-        let visible = self.is_visible(id);
-        self.change(id, Change::NoEffects);
-        visible
+        self.change(id, Change::NoEffects)
     }
 
     /// Shows or hides an instance. A redraw is always requested.
     pub fn set_visible(&mut self, id: InstanceId, v: bool) -> bool
-        requires { IsLive id self.old }
         ensures redraw { result ≡ true }
         ensures new { self.new ≡ on_instance id (λ i. record i { visible = v }) self.old }
         ensures kept { IsSameCast self.old self.new }
     {
-        self.change(id, Change::Visible(v));
+        let _was = self.change(id, Change::Visible(v));
         true
     }
 
     /// Sets the rotation style of an instance. A redraw is requested where it is visible.
     pub fn set_style(&mut self, id: InstanceId, s: Style) -> bool
-        requires { IsLive id self.old }
         ensures redraw { result ≡ (instance_at id self.old).visible }
         ensures new { self.new ≡ on_instance id (λ i. record i { style = s }) self.old }
         ensures kept { IsSameCast self.old self.new }
     {
-        let visible = self.is_visible(id);
-        self.change(id, Change::Style(s));
-        visible
+        self.change(id, Change::Style(s))
     }
 
     /// Updates the bubble of an instance. A redraw is requested where it is visible.
     pub fn set_bubble(&mut self, id: InstanceId, kind: Say, text: BubbleText, usage: u64) -> bool
-        requires { IsLive id self.old }
         ensures redraw { result ≡ (instance_at id self.old).visible }
         ensures new { self.new ≡ on_instance id (λ i. record i { bubble = record { kind = kind; text = text; usage = usage } }) self.old }
         ensures kept { IsSameCast self.old self.new }
     {
-        let visible = self.is_visible(id);
-        self.say(id, Bubble { kind, text, usage });
-        visible
+        self.say(id, Bubble { kind, text, usage })
     }
 
-    // Sets the bubble of an instance.
-    fn say(&mut self, id: InstanceId, bubble: Bubble)
-        requires { IsLive id self.old }
+    // Sets the bubble of an instance, and tells whether it is visible.
+    fn say(&mut self, id: InstanceId, bubble: Bubble) -> bool
+        ensures visible { result ≡ (instance_at id self.old).visible }
         ensures new { self.new ≡ on_instance id (λ i. record i { bubble = bubble }) self.old }
         ensures kept { IsSameCast self.old self.new }
     {
         match self.place(id) {
             Some(place) => changes::say(&mut self.instances[place], bubble),
-            None => unreachable!(),
+            None => false,
         }
     }
 
     // Puts recorded values in place of those of an instance, and gives these.
     fn exchange(&mut self, id: InstanceId, new: Edges) -> Edges
-        requires { IsLive id self.old }
         ensures old { result ≡ (instance_at id self.old).edges }
         ensures new { self.new ≡ on_instance id (λ i. record i { edges = new }) self.old }
         ensures kept { IsSameCast self.old self.new }
     {
         match self.place(id) {
             Some(place) => changes::exchange(&mut self.instances[place], new),
-            None => unreachable!(),
+            None => Edges::new(self.alloc),
         }
     }
 
@@ -276,7 +258,6 @@ impl Targets {
         hat: BlockId,
         value: bool,
     ) -> Result<Option<bool>, AllocError>
-        requires { IsLive id self.old }
         ensures old { IfOk result (λ was. was ≡ edge_of hat (instance_at id self.old).edges) }
         ensures recorded { IfOk result (λ was. unwrap_or was false ≡ frame.recorded hat (instance_at id self.old).edges) }
         ensures new { OnOk result (self.new ≡ on_instance id (λ i. record i { edges = frame.with_edge hat value i.edges }) self.old) }
@@ -334,13 +315,9 @@ impl Targets {
     /// Whether a clone of an instance can be made: there are fewer than 300 clones, and it is not on the stage. The records are
     /// those with which the run began.
     pub fn has_room(&self, records: &Records, of: InstanceId) -> bool
-        requires { IsLive of self.now }
         ensures { result ≡ not (has_no_room (records_in records.now) of self.now) }
     {
-        match self.place(of) {
-            Some(place) => clones::has_room(self.instances.as_slice(), place, records),
-            None => unreachable!(),
-        }
+        clones::has_room(self.instances.len(), self.target(of), records)
     }
 
     /// The original of the first sprite, in file order, with exactly this name. None where there is none; the stage is no
@@ -383,9 +360,9 @@ impl Targets {
     {
         match self.place(clone) {
             Some(place) => {
-                let mut order = mem::replace(&mut self.order, Ids::new(self.alloc)).into_vec();
+                let mut order = self.order.take(self.alloc);
                 order::put_behind(&mut order, &mut self.instances, place, original);
-                self.order = Ids::from_vec(order);
+                self.order.put(order);
             }
             None => unreachable!(),
         }
@@ -400,9 +377,9 @@ impl Targets {
         match self.place(id) {
             Some(place) => {
                 let to = layers::layer(to, place, self.instances.len() - 1);
-                let mut order = mem::replace(&mut self.order, Ids::new(self.alloc)).into_vec();
+                let mut order = self.order.take(self.alloc);
                 order::shift(&mut order, place, to);
-                self.order = Ids::from_vec(order);
+                self.order.put(order);
                 order::shift(&mut self.instances, place, to);
             }
             None => unreachable!(),
@@ -416,9 +393,9 @@ impl Targets {
     {
         match self.place(id) {
             Some(place) => {
-                let mut order = mem::replace(&mut self.order, Ids::new(self.alloc)).into_vec();
+                let mut order = self.order.take(self.alloc);
                 order.remove(place);
-                self.order = Ids::from_vec(order);
+                self.order.put(order);
                 self.instances.remove(place);
             }
             None => {}
@@ -431,9 +408,9 @@ impl Targets {
         ensures new { self.new ≡ map cleared (filter (λ i. not (not (nat_lt i.number targets))) self.old) }
         ensures originals { (n : ℕ) → n < targets → live n self.new ≡ option_map cleared (live n self.old) }
     {
-        let mut order = mem::replace(&mut self.order, Ids::new(self.alloc)).into_vec();
+        let mut order = self.order.take(self.alloc);
         order.retain(|id| id.0 < u64::from(targets));
-        self.order = Ids::from_vec(order);
+        self.order.put(order);
         self.instances
             .retain(|instance| instance.number.0 < u64::from(targets));
         changes::clear_all(&mut self.instances, self.alloc);

@@ -53,11 +53,9 @@ fn the_stage_is_first_and_sprites_follow_by_layer(rt: HostRuntime) {
 #[test]
 fn an_instance_is_changed(rt: HostRuntime) {
     let mut targets = opened(&rt);
-    assert!(rt; targets.is_live(ANN));
     assert!(rt; targets.set_xy(ANN, of_whole(3), of_whole(4)));
     assert!(rt; targets.set_size(ANN, of_whole(20000)));
     assert_eq!(rt; size_of(&rt, &targets, ANN), of_whole(10000));
-    assert!(rt; targets.is_live(ANN));
     assert!(rt; targets.set_visible(ANN, false));
     assert!(rt; !targets.set_direction(ANN, of_whole(450)));
     assert!(rt; !targets.set_style(ANN, Style::LeftRight));
@@ -66,13 +64,10 @@ fn an_instance_is_changed(rt: HostRuntime) {
 #[test]
 fn an_instance_is_dressed(rt: HostRuntime) {
     let mut targets = opened(&rt);
-    assert!(rt; targets.is_live(ANN));
     assert!(rt; targets.set_effect(ANN, Effect::Ghost, of_whole(150)));
     assert_eq!(rt; ghost_of(&rt, &targets, ANN), of_whole(100));
-    assert!(rt; targets.is_live(ANN));
     assert!(rt; targets.clear_effects(ANN));
     assert_eq!(rt; ghost_of(&rt, &targets, ANN), of_whole(0));
-    assert!(rt; targets.is_live(ANN));
     assert!(rt; targets.set_costume(ANN, of_whole(7), 2));
     assert!(rt; targets.set_bubble(ANN, Say::Think, BubbleText::new(rt.alloc()), 5));
 }
@@ -81,16 +76,16 @@ fn an_instance_is_dressed(rt: HostRuntime) {
 fn a_clone_is_made_and_disposed_of(rt: HostRuntime) {
     let records = records(&rt);
     let mut targets = Targets::open(rt.alloc(), &records).expect(&rt, "memory");
-    assert!(rt; targets.is_live(STAGE));
     assert!(rt; !targets.has_room(&records, STAGE));
+    assert!(rt; targets.is_live(STAGE));
     assert!(rt;
         targets
             .make_clone(STAGE, CLONE)
             .expect(&rt, "memory")
             .is_none()
     );
-    assert!(rt; targets.is_live(BEN));
     assert!(rt; targets.has_room(&records, BEN));
+    assert!(rt; targets.is_live(BEN));
     assert!(rt;
         targets
             .make_clone(BEN, CLONE)
@@ -119,15 +114,52 @@ fn clones_end_with_everything(rt: HostRuntime) {
 #[test]
 fn an_edge_value_is_recorded(rt: HostRuntime) {
     let mut targets = opened(&rt);
-    assert!(rt; targets.is_live(ANN));
     let first = targets
         .set_edge(ANN, BlockId(4), true)
         .expect(&rt, "memory");
     assert_eq!(rt; first, None);
-    assert!(rt; targets.is_live(ANN));
     let second = targets
         .set_edge(ANN, BlockId(4), false)
         .expect(&rt, "memory");
     assert_eq!(rt; second, Some(true));
     targets.clear_edges();
+}
+
+#[test]
+fn the_stage_alone_is_the_stage(rt: HostRuntime) {
+    let records = records(&rt);
+    let targets = Targets::open(rt.alloc(), &records).expect(&rt, "memory");
+    assert!(rt; targets.is_on_stage(&records, STAGE));
+    assert!(rt; !targets.is_on_stage(&records, BEN));
+}
+
+#[test]
+fn an_instance_that_is_not_live_is_not_changed(rt: HostRuntime) {
+    let mut targets = opened(&rt);
+    assert!(rt; !targets.is_live(CLONE));
+    assert!(rt; !targets.set_xy(CLONE, of_whole(3), of_whole(4)));
+    assert!(rt; !targets.set_bubble(CLONE, Say::Say, BubbleText::new(rt.alloc()), 1));
+    assert!(rt; targets.set_visible(CLONE, true));
+    let was = targets.set_edge(CLONE, BlockId(4), true);
+    assert_eq!(rt; was.expect(&rt, "memory"), None);
+    targets.dispose(CLONE);
+    assert!(rt; is_order(&targets, &[STAGE, BEN, ANN]));
+    assert_eq!(rt; size_of(&rt, &targets, BEN), of_whole(100));
+}
+
+#[test]
+fn instances_are_found_whatever_their_layer(rt: HostRuntime) {
+    let mut targets = opened(&rt);
+    for number in 3..40 {
+        assert!(rt; targets.is_live(BEN));
+        let clone = InstanceId(number * 100);
+        targets.add_clone(BEN, clone).expect(&rt, "memory");
+        assert!(rt; targets.is_live(clone));
+        targets.move_layer(clone, Place::Back);
+        assert!(rt; targets.set_xy(clone, of_whole(number as i64), of_whole(0)));
+    }
+    for number in 3..40 {
+        let clone = targets.get(InstanceId(number * 100)).expect(&rt, "live");
+        assert_eq!(rt; clone.x, of_whole(number as i64));
+    }
 }

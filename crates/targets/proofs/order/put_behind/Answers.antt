@@ -1,4 +1,4 @@
-use Rattle.std.proofs.Common.{◌≡◌, ℕ, List, Option, Some, None, get_or, sym, ap, ap₂, ◌∙◌}
+use Rattle.std.proofs.Common.{◌≡◌, ℕ, List, Some, None, get_or, sym, ap, ap₂, ◌∙◌}
 use Rattle.std.specs.Prelude.{◌==◌}
 use Rattle.std.specs.List.{position, insert, remove}
 use Rattle.std.proofs.lemmas.List.{get_or_default}
@@ -27,7 +27,7 @@ returns-in-Some-clause-put c =
     c.remove-id.ensures.items ∙ ap (λ (l : List ℕ). remove l c.args.from) c.requires.same ∙ sym (numbers-remove c.args.instances.now.items c.args.from) ∙ ap numbers (sym c.remove-instance.ensures.items) in
     let found : position (λ (i : Instance). i.number == c.args.original) c.remove-instance.new.self.items ≡ Some c.in-Some.to =
     sym (position-numbers c.args.original c.remove-instance.new.self.items)
-    ∙ ap (λ (l : List ℕ). position (λ n. n == c.args.original) l) (sym left ∙ sym c.as_slice.ensures.value) ∙ sym c.place.ensures ∙ c.in-Some.is in
+    ∙ ap (λ (l : List ℕ). position (λ n. n == c.args.original) l) (sym left ∙ sym c.as_slice.ensures.value) ∙ sym c.sought.ensures ∙ c.in-Some.is in
     λ d. c.put-in-Some.ensures
     ∙ sym (inserted_behind_is c.remove-instance.result c.args.original c.remove-instance.new.self.items c.in-Some.to found)
     ∙ ap₂ (λ (x : Instance) (l : List Instance). inserted_behind x c.args.original l)
@@ -44,6 +44,6 @@ returns-in-None-clause-put c =
     c.remove-id.ensures.items ∙ ap (λ (l : List ℕ). remove l c.args.from) c.requires.same ∙ sym (numbers-remove c.args.instances.now.items c.args.from) ∙ ap numbers (sym c.remove-instance.ensures.items) in
     let none : position (λ (i : Instance). i.number == c.args.original) c.remove-instance.new.self.items ≡ None =
     sym (position-numbers c.args.original c.remove-instance.new.self.items)
-    ∙ ap (λ (l : List ℕ). position (λ n. n == c.args.original) l) (sym left ∙ sym c.as_slice.ensures.value) ∙ sym c.place.ensures ∙ c.in-None.is in
+    ∙ ap (λ (l : List ℕ). position (λ n. n == c.args.original) l) (sym left ∙ sym c.as_slice.ensures.value) ∙ sym c.sought.ensures ∙ c.in-None.is in
     λ d. sym (inserted_behind_none (get_or c.args.instances.now.items c.args.from d) c.args.original c.remove-instance.new.self.items none)
     ∙ ap (λ (l : List Instance). inserted_behind (get_or c.args.instances.now.items c.args.from d) c.args.original l) c.remove-instance.ensures.items

@@ -1,27 +1,39 @@
-use Rattle.std.proofs.Common.{◌≡◌, List, get_or, set, refl, sym, subst, ap, ◌∙◌}
+use Rattle.std.proofs.Common.{List, get_or, sym, subst, ap, ◌∙◌}
 use Rattle.script_machine.specs.declared.instance.Instance.{Instance}
-use Rattle.script_machine.specs.Stores.{instance_at}
 use Rattle.targets.specs.Changes.{changed_by}
-use Rattle.targets.specs.Live.{IsSameCast, numbers}
-use Rattle.targets.proofs.Cast.{live_is_placed, instance_at_is, changed_is, cast-on_instance, order-set, change_keeps}
+use Rattle.targets.specs.Live.{IsSameCast}
+use Rattle.targets.proofs.Cast.{instance_at_is, instance_at_none, on_instance_none, changed_is, cast-on_instance, cast_same, order-set, change_keeps}
 use Rattle.targets.proofs.state.Targets.change.Goals as goal
-
-pub unreachable-requires : goal.unreachable-requires
-unreachable-requires c = live_is_placed c.args.id c.args.self.now c.requires (sym c.place.ensures ∙ c.in-None.is)
 
 pub invariant_of-self : goal.invariant_of-self
 invariant_of-self c =
-    c.self.invariant ∙ order-set (changed_by c.args.change) c.self.inside.instances.items c.in-Some.place c.index_mut.result.now c.make.new.instance (change_keeps c.args.change) c.index_mut.ensures.value c.make.ensures
+    c.self.invariant ∙ order-set (changed_by c.args.change) c.self.inside.instances.items c.in-Some.place c.index_mut.result.now c.make.new.instance (change_keeps c.args.change) c.index_mut.ensures.value c.make.ensures.new
 
-pub returns-clause-new : goal.returns-clause-new
-returns-clause-new c =
+pub returns-in-Some-clause-new : goal.returns-in-Some-clause-new
+returns-in-Some-clause-new c =
     changed_is c.args.id (changed_by c.args.change) c.self.inside.instances.items c.args.self.now c.in-Some.place c.index_mut.result.now c.make.new.instance
-    c.self.view_is (sym c.place.ensures ∙ c.in-Some.is) c.index_mut.ensures.value c.make.ensures
+    c.self.view_is (sym c.place.ensures ∙ c.in-Some.is) c.index_mut.ensures.value c.make.ensures.new
 
-pub returns-clause-kept : goal.returns-clause-kept
-returns-clause-kept c =
+pub returns-in-Some-clause-kept : goal.returns-in-Some-clause-kept
+returns-in-Some-clause-kept c =
     let P : List Instance → Type 0 = IsSameCast c.args.self.now in
     subst P
     (sym (changed_is c.args.id (changed_by c.args.change) c.self.inside.instances.items c.args.self.now c.in-Some.place c.index_mut.result.now c.make.new.instance
-    c.self.view_is (sym c.place.ensures ∙ c.in-Some.is) c.index_mut.ensures.value c.make.ensures))
+    c.self.view_is (sym c.place.ensures ∙ c.in-Some.is) c.index_mut.ensures.value c.make.ensures.new))
     (cast-on_instance c.args.id (changed_by c.args.change) c.args.self.now c.in-Some.place c.index_mut.result.now (sym c.place.ensures ∙ c.in-Some.is) (change_keeps c.args.change))
+
+pub returns-in-Some-clause-visible : goal.returns-in-Some-clause-visible
+returns-in-Some-clause-visible c =
+    c.make.ensures.visible
+    ∙ ap (λ (i : Instance). i.visible)
+    (c.index_mut.ensures.value ∙ ap (λ (l : List Instance). get_or l c.in-Some.place c.index_mut.result.now) c.self.view_is
+    ∙ sym (instance_at_is c.args.id c.args.self.now c.in-Some.place c.index_mut.result.now (sym c.place.ensures ∙ c.in-Some.is)))
+
+pub returns-in-None-clause-new : goal.returns-in-None-clause-new
+returns-in-None-clause-new c = sym (on_instance_none c.args.id (changed_by c.args.change) c.args.self.now (sym c.place.ensures ∙ c.in-None.is))
+
+pub returns-in-None-clause-kept : goal.returns-in-None-clause-kept
+returns-in-None-clause-kept c = cast_same c.args.self.now
+
+pub returns-in-None-clause-visible : goal.returns-in-None-clause-visible
+returns-in-None-clause-visible c = ap (λ (i : Instance). i.visible) (sym (instance_at_none c.args.id c.args.self.now (sym c.place.ensures ∙ c.in-None.is)))

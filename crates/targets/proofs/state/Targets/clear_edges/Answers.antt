@@ -1,20 +1,10 @@
-use Rattle.std.proofs.Common.{◌≡◌, ◌≢◌, ℕ, ◌+◌, ◌-◌, ◌<◌, ◌≤◌, min, List, ◌++◌, length, get_or, take, drop, map, not, Option, Some, None, rules, refl, sym, subst, ap, ap₂, ◌∙◌, arith}
-use Rattle.std.specs.Prelude.{◌==◌, nat_lt, ◌||◌}
-use Rattle.std.specs.List.{position, filter, insert, remove}
-use Rattle.std.proofs.lemmas.Fn.{filter_same}
+use Rattle.std.proofs.Common.{◌≡◌, List, ◌++◌, length, take, drop, map, refl, sym, subst, ap, ◌∙◌, arith}
 use Rattle.std.proofs.lemmas.List.{take_at, length-map}
-use Rattle.std.proofs.lemmas.List.Edits.{length-remove}
 use Rattle.script_machine.specs.declared.instance.Instance.{Instance}
 use Rattle.script_machine.specs.Line.{without_edges}
-use Rattle.script_machine.specs.Lists.{removed_at}
-use Rattle.script_machine.specs.Looks.{layer}
-use Rattle.script_machine.specs.Stopping.{inserted_behind, cleared}
-use Rattle.script_machine.specs.Stores.{live, no_instance, instance_at}
-use Rattle.targets.specs.Layers.{layer_to}
 use Rattle.targets.specs.Live.{IsSameCast, numbers}
-use Rattle.targets.proofs.Places.{position_is}
-use Rattle.targets.proofs.Cast.{live_is_placed, instance_at_is, cast-map}
-use Rattle.targets.proofs.Moves.{numbers-insert, numbers-remove, numbers-filter, numbers-map, get_or-numbers, insert_kept, kept_twice, live-removed}
+use Rattle.targets.proofs.Cast.{cast-map}
+use Rattle.targets.proofs.Moves.{numbers-map}
 use Rattle.targets.proofs.state.Targets.clear_edges.Goals as goal
 
 forgotten : (c : goal.After-self-1) → c.forget_all.new.instances ≡ map without_edges c.self.inside.instances.items

@@ -1,4 +1,4 @@
-use Rattle.std.proofs.Common.{◌≡◌, List, Option, Some, None, get_or, sym, ap, ◌∙◌}
+use Rattle.std.proofs.Common.{List, Some, get_or, sym, ap, ◌∙◌}
 use Rattle.std.specs.Prelude.{◌==◌}
 use Rattle.script_machine.specs.declared.instance.Instance.{Instance}
 use Rattle.targets.proofs.Places.{find_is, find_none}

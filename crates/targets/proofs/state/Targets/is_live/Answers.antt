@@ -1,5 +1,5 @@
 use Rattle.std.proofs.Common.{sym, subst}
-use Rattle.std.proofs.Common.{◌≡◌, Bool, IsTrue}
+use Rattle.std.proofs.Common.{Bool, IsTrue}
 use Rattle.targets.specs.Live.{IsLive}
 use Rattle.targets.proofs.Cast.{live_by}
 use Rattle.targets.proofs.state.Targets.is_live.Goals as goal

@@ -1,22 +1,10 @@
-use Rattle.std.proofs.Common.{◌≡◌, ◌≢◌, ℕ, ◌+◌, ◌-◌, ◌<◌, ◌≤◌, min, List, ◌++◌, length, get_or, take, drop, map, not, Option, Some, None, rules, refl, sym, subst, ap, ap₂, ◌∙◌, arith}
-use Rattle.std.specs.Prelude.{◌==◌, nat_lt, ◌||◌}
-use Rattle.std.specs.List.{position, filter, insert, remove}
-use Rattle.std.proofs.lemmas.Fn.{filter_same}
-use Rattle.std.proofs.lemmas.List.{take_at, length-map}
-use Rattle.std.proofs.lemmas.List.Edits.{length-remove}
+use Rattle.std.proofs.Common.{List, get_or, not, sym, ap, ◌∙◌}
+use Rattle.std.specs.Prelude.{nat_lt, ◌||◌}
 use Rattle.script_machine.specs.declared.instance.Instance.{Instance}
-use Rattle.script_machine.specs.Line.{without_edges}
-use Rattle.script_machine.specs.Lists.{removed_at}
-use Rattle.script_machine.specs.Looks.{layer}
-use Rattle.script_machine.specs.Stopping.{inserted_behind, cleared}
-use Rattle.script_machine.specs.Stores.{live, no_instance, instance_at}
-use Rattle.targets.specs.Layers.{layer_to}
+use Rattle.script_machine.specs.Stores.{no_instance}
 use Rattle.script_machine.specs.Stopping.{most_clones}
 use Rattle.targets.specs.Clones.{clones_in, is_of_first}
-use Rattle.targets.specs.Live.{IsSameCast, numbers}
-use Rattle.targets.proofs.Places.{position_is}
-use Rattle.targets.proofs.Cast.{live_is_placed, instance_at_is, cast-map}
-use Rattle.targets.proofs.Moves.{numbers-insert, numbers-remove, numbers-filter, numbers-map, get_or-numbers, insert_kept, kept_twice, live-removed}
+use Rattle.targets.proofs.Cast.{live_is_placed, instance_at_is}
 use Rattle.targets.proofs.state.Targets.lacks_room.Goals as goal
 
 pub unreachable-requires : goal.unreachable-requires

@@ -1,20 +1,14 @@
-use Rattle.std.proofs.Common.{◌≡◌, ◌≢◌, ℕ, ◌+◌, ◌-◌, ◌<◌, ◌≤◌, min, List, ◌++◌, length, get_or, take, drop, map, not, Option, Some, None, rules, refl, sym, subst, ap, ap₂, ◌∙◌, arith}
-use Rattle.std.specs.Prelude.{◌==◌, nat_lt, ◌||◌}
-use Rattle.std.specs.List.{position, filter, insert, remove}
-use Rattle.std.proofs.lemmas.Fn.{filter_same}
-use Rattle.std.proofs.lemmas.List.{take_at, length-map}
+use Rattle.std.proofs.Common.{◌≡◌, ℕ, ◌-◌, ◌<◌, List, length, get_or, Some, sym, ap, ap₂, ◌∙◌, arith}
+use Rattle.std.specs.Prelude.{◌==◌}
+use Rattle.std.specs.List.{position, insert, remove}
 use Rattle.std.proofs.lemmas.List.Edits.{length-remove}
 use Rattle.script_machine.specs.declared.instance.Instance.{Instance}
-use Rattle.script_machine.specs.Line.{without_edges}
-use Rattle.script_machine.specs.Lists.{removed_at}
-use Rattle.script_machine.specs.Looks.{layer}
-use Rattle.script_machine.specs.Stopping.{inserted_behind, cleared}
-use Rattle.script_machine.specs.Stores.{live, no_instance, instance_at}
+use Rattle.script_machine.specs.Stores.{no_instance, instance_at}
 use Rattle.targets.specs.Layers.{layer_to}
-use Rattle.targets.specs.Live.{IsSameCast, numbers}
+use Rattle.targets.specs.Live.{numbers}
 use Rattle.targets.proofs.Places.{position_is}
-use Rattle.targets.proofs.Cast.{live_is_placed, instance_at_is, cast-map}
-use Rattle.targets.proofs.Moves.{numbers-insert, numbers-remove, numbers-filter, numbers-map, get_or-numbers, insert_kept, kept_twice, live-removed}
+use Rattle.targets.proofs.Cast.{live_is_placed, instance_at_is}
+use Rattle.targets.proofs.Moves.{numbers-insert, numbers-remove, get_or-numbers, insert_kept}
 use Rattle.std.specs.List.{list_any}
 use Rattle.targets.proofs.Same.{any-moved}
 use Rattle.targets.proofs.state.Targets.move_layer.Goals as goal
@@ -25,10 +19,10 @@ unreachable-requires c = live_is_placed c.args.id c.args.self.now c.requires (sy
 pub invariant_of-self : goal.invariant_of-self
 invariant_of-self c =
     let items = c.self.inside.instances.items in
-    let order_is : c.into_vec-order.result.items ≡ numbers c.self.inside.instances.items = c.into_vec-order.ensures ∙ c.replace.ensures.value ∙ c.self.invariant in
+    let order_is : c.take-order.result.items ≡ numbers c.self.inside.instances.items = c.take-order.ensures.ids ∙ c.self.invariant in
     let at = position_is (λ (i : Instance). i.number == c.args.id) c.args.self.now c.in-Some.place no_instance (sym c.place.ensures ∙ c.in-Some.is) in
     let within : c.in-Some.place < length c.self.inside.instances.items = omega (arith, ap length c.self.view_is) in
-    c.from_vec.ensures ∙ c.shift.ensures 0
+    c.put.ensures ∙ c.shift.ensures 0
     ∙ ap (λ (l : List ℕ). insert (remove l c.in-Some.place) c.layer-to.result (get_or l c.in-Some.place 0)) order_is
     ∙ ap₂ (λ (l : List ℕ) (n : ℕ). insert l c.layer-to.result n) (sym (numbers-remove items c.in-Some.place)) (get_or-numbers items c.in-Some.place 0 no_instance within)
     ∙ sym (numbers-insert (remove items c.in-Some.place) c.layer-to.result (get_or items c.in-Some.place no_instance))

@@ -1,4 +1,4 @@
-use Rattle.std.proofs.Common.{◌≡◌, ℕ, List, Bool, Option, false, Result, OnOk, OnErr, sym, subst, ap, ◌∙◌}
+use Rattle.std.proofs.Common.{◌≡◌, ℕ, List, Bool, Option, false, ap, ◌∙◌}
 use Rattle.std.specs.Prelude.{unwrap_or}
 use Rattle.script_machine.specs.Frame.{with_edge}
 use Rattle.script_machine.specs.Stores.{instance_at}
@@ -17,10 +17,10 @@ pub returns-in-Ok-clause-new : goal.returns-in-Ok-clause-new
 returns-in-Ok-clause-new c =
     let put : c.recording-new.result.0 ≡ with_edge c.args.hat c.args.value c.exchange-old.result = rw c.in-Ok.is at c.recording-new.ensures.ok in
     put_changed c.args.id c.new.result c.recording-new.result.0 (with_edge c.args.hat c.args.value) c.args.self.now c.exchange-old.new.self c.exchange-2.new.self
-    c.requires c.exchange-old.ensures.new c.exchange-2.ensures.new (put ∙ ap (with_edge c.args.hat c.args.value) c.exchange-old.ensures.old)
+    c.exchange-old.ensures.new c.exchange-2.ensures.new (put ∙ ap (with_edge c.args.hat c.args.value) c.exchange-old.ensures.old)
 
 pub returns-in-Err-clause-err : goal.returns-in-Err-clause-err
 returns-in-Err-clause-err c =
     let put : c.recording-new.result.0 ≡ c.exchange-old.result = rw c.in-Err.is at c.recording-new.ensures.err in
     put_back c.args.id c.new.result c.recording-new.result.0 c.args.self.now c.exchange-old.new.self c.exchange-2.new.self
-    c.requires c.exchange-old.ensures.new c.exchange-2.ensures.new (put ∙ c.exchange-old.ensures.old)
+    c.exchange-old.ensures.new c.exchange-2.ensures.new (put ∙ c.exchange-old.ensures.old)

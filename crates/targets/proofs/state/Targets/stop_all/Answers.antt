@@ -1,20 +1,13 @@
-use Rattle.std.proofs.Common.{◌≡◌, ◌≢◌, ℕ, ◌+◌, ◌-◌, ◌<◌, ◌≤◌, min, List, ◌++◌, length, get_or, take, drop, map, not, Option, Some, None, rules, refl, sym, subst, ap, ap₂, ◌∙◌, arith}
-use Rattle.std.specs.Prelude.{◌==◌, nat_lt, ◌||◌}
-use Rattle.std.specs.List.{position, filter, insert, remove}
+use Rattle.std.proofs.Common.{◌≡◌, ℕ, List, ◌++◌, length, take, drop, map, not, rules, refl, sym, ap, ◌∙◌, arith}
+use Rattle.std.specs.Prelude.{nat_lt}
+use Rattle.std.specs.List.{filter}
 use Rattle.std.proofs.lemmas.Fn.{filter_same}
 use Rattle.std.proofs.lemmas.List.{take_at, length-map}
-use Rattle.std.proofs.lemmas.List.Edits.{length-remove}
 use Rattle.script_machine.specs.declared.instance.Instance.{Instance}
-use Rattle.script_machine.specs.Line.{without_edges}
-use Rattle.script_machine.specs.Lists.{removed_at}
-use Rattle.script_machine.specs.Looks.{layer}
-use Rattle.script_machine.specs.Stopping.{inserted_behind, cleared}
-use Rattle.script_machine.specs.Stores.{live, no_instance, instance_at}
-use Rattle.targets.specs.Layers.{layer_to}
-use Rattle.targets.specs.Live.{IsSameCast, numbers}
-use Rattle.targets.proofs.Places.{position_is}
-use Rattle.targets.proofs.Cast.{live_is_placed, instance_at_is, cast-map}
-use Rattle.targets.proofs.Moves.{numbers-insert, numbers-remove, numbers-filter, numbers-map, get_or-numbers, insert_kept, kept_twice, live-removed}
+use Rattle.script_machine.specs.Stopping.{cleared}
+use Rattle.script_machine.specs.Stores.{live}
+use Rattle.targets.specs.Live.{numbers}
+use Rattle.targets.proofs.Moves.{numbers-filter, numbers-map, kept_twice}
 use Rattle.std.specs.Prelude.{option_map}
 use Rattle.std.proofs.lemmas.Bool.Decides.{nat_tests}
 use Rattle.targets.proofs.Same.{live-map, live-filter}
@@ -23,7 +16,7 @@ use Rattle.targets.proofs.state.Targets.stop_all.Goals as goal
 kept : (c : goal.After-self-1) → c.retain-2.new.self.items ≡ filter (λ i. nat_lt i.number c.args.targets) c.self.inside.instances.items
 kept c = filter_same _ (λ (i : Instance). nat_lt i.number c.args.targets) _ (λ x b f' t. search rules) _ _ c.retain-2.ensures.filtered
 
-ids : (c : goal.After-self-1) → c.retain.new.self.items ≡ filter (λ n. nat_lt n c.args.targets) c.into_vec-order.result.items
+ids : (c : goal.After-self-1) → c.retain.new.self.items ≡ filter (λ n. nat_lt n c.args.targets) c.take-order.result.items
 ids c = filter_same _ (λ (n : ℕ). nat_lt n c.args.targets) _ (λ x b f' t. search rules) _ _ c.retain.ensures.filtered
 
 cleared_is : (c : goal.After-self-1) → c.clear_all.new.instances ≡ map cleared c.retain-2.new.self.items
@@ -37,8 +30,8 @@ whole c =
 
 pub invariant_of-self : goal.invariant_of-self
 invariant_of-self c =
-    let order_is : c.into_vec-order.result.items ≡ numbers c.self.inside.instances.items = c.into_vec-order.ensures ∙ c.replace.ensures.value ∙ c.self.invariant in
-    c.from_vec.ensures ∙ ids c ∙ ap (filter (λ n. nat_lt n c.args.targets)) order_is
+    let order_is : c.take-order.result.items ≡ numbers c.self.inside.instances.items = c.take-order.ensures.ids ∙ c.self.invariant in
+    c.put.ensures ∙ ids c ∙ ap (filter (λ n. nat_lt n c.args.targets)) order_is
     ∙ numbers-filter (λ n. nat_lt n c.args.targets) c.self.inside.instances.items
     ∙ ap numbers (sym (kept c))
     ∙ sym (numbers-map cleared c.retain-2.new.self.items (λ i. refl))
