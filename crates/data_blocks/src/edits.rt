@@ -5,7 +5,7 @@ ghost use Rattle.script_machine.specs.DataRows.{deleted, inserted, items_set, re
 ghost use Rattle.script_machine.specs.Stores.{items_in};
 ghost use Rattle.variables.specs.Held.{HasSameShape};
 
-use crate::arguments::Place;
+use block_arguments::Place;
 use scratch_values::{Index, Value};
 use std::alloc::AllocError;
 use variables::Variables;

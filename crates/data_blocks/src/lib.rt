@@ -2,7 +2,6 @@
 #![tactic(auto)]
 
 mod applying;
-mod arguments;
 mod edits;
 mod list_rows;
 mod monitor_rows;

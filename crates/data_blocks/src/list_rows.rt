@@ -11,9 +11,9 @@ ghost use Rattle.variables.specs.Held.{HasSameShape};
 ghost use Rattle.data_blocks.specs.Blocks.{parts_of, row};
 ghost use Rattle.data_blocks.specs.Stops.{IsOfWordsOrMemory};
 
-use crate::arguments::{named, value};
 use crate::edits::{deleted_at, inserted_at, replaced_at};
 use crate::places::place;
+use block_arguments::{held_at, value};
 use scratch_values::Args;
 use script_machine::InstanceId;
 use script_words::{Counted, Rng, Stop};
@@ -32,7 +32,7 @@ pub(crate) fn add(
     ensures ok { let l = named_by (codes "LIST") args.entry.now here (records_in records.now) in OnOk result (variables.new ≡ list_set l (added (value_at (codes "ITEM") args.entry.now) (items_of l.ref here (records_in records.now) variables.old)) variables.old) }
     ensures held { HasSameShape variables.old variables.new }
 {
-    let list = named(args, "LIST", here, records);
+    let list = held_at(args, "LIST", here, records);
     let item = value(args, "ITEM")?;
     variables.push(list.of, list.index, item)
 }
@@ -47,7 +47,7 @@ pub(crate) fn delete_all(
     ensures new { variables.new ≡ list_set (named_by (codes "LIST") args.entry.now here (records_in records.now)) [] variables.old }
     ensures held { HasSameShape variables.old variables.new }
 {
-    let list = named(args, "LIST", here, records);
+    let list = held_at(args, "LIST", here, records);
     variables.clear(list.of, list.index);
 }
 
@@ -64,7 +64,7 @@ pub(crate) fn delete<R: Rng + Drop>(
     ensures stop { StopIs result (row opcode.DataDeleteOfList args.entry.now here (records_in records.now) [] (parts_of R.stream variables.old words.old)) }
     ensures kind { IfErr result IsOfWordsOrMemory }
 {
-    let list = named(args, "LIST", here, records);
+    let list = held_at(args, "LIST", here, records);
     let length = variables.items(list.of, list.index).len() as u32;
     let place = match place(args, length, true, words) {
         Ok(place) => place,
@@ -87,7 +87,7 @@ pub(crate) fn insert<R: Rng + Drop>(
     ensures stop { StopIs result (row opcode.DataInsertAtList args.entry.now here (records_in records.now) [] (parts_of R.stream variables.old words.old)) }
     ensures kind { IfErr result IsOfWordsOrMemory }
 {
-    let list = named(args, "LIST", here, records);
+    let list = held_at(args, "LIST", here, records);
     let length = variables.items(list.of, list.index).len() as u32;
     let place = match place(args, length + 1, false, words) {
         Ok(place) => place,
@@ -111,7 +111,7 @@ pub(crate) fn replace<R: Rng + Drop>(
     ensures stop { StopIs result (row opcode.DataReplaceItemOfList args.entry.now here (records_in records.now) [] (parts_of R.stream variables.old words.old)) }
     ensures kind { IfErr result IsOfWordsOrMemory }
 {
-    let list = named(args, "LIST", here, records);
+    let list = held_at(args, "LIST", here, records);
     let length = variables.items(list.of, list.index).len() as u32;
     let place = match place(args, length, false, words) {
         Ok(place) => place,

@@ -8,7 +8,7 @@ ghost use Rattle.script_machine.specs.Stores.{instance_at};
 ghost use Rattle.target_records.specs.Records.{records_in};
 ghost use Rattle.variables.specs.Held.{HasSameShape};
 
-use crate::arguments::named;
+use block_arguments::held_at;
 use scratch_values::Args;
 use script_machine::{InstanceId, Shown, TargetId};
 use std::alloc::AllocError;
@@ -38,7 +38,7 @@ pub(crate) fn show_variable(
     ensures ok { let v = named_by (codes "VARIABLE") args.entry.now here (records_in records.now) in OnOk result (variables.new ≡ monitor_set (records_in records.now) (shown_as shown.Variable v targets.now) visible variables.old) }
     ensures held { HasSameShape variables.old variables.new }
 {
-    let variable = named(args, "VARIABLE", here, records);
+    let variable = held_at(args, "VARIABLE", here, records);
     let what = Shown::Variable(target_of(targets, variable.of), variable.index);
     variables.show(records, what, visible)
 }
@@ -55,7 +55,7 @@ pub(crate) fn show_list(
     ensures ok { let l = named_by (codes "LIST") args.entry.now here (records_in records.now) in OnOk result (variables.new ≡ monitor_set (records_in records.now) (shown_as shown.List l targets.now) visible variables.old) }
     ensures held { HasSameShape variables.old variables.new }
 {
-    let list = named(args, "LIST", here, records);
+    let list = held_at(args, "LIST", here, records);
     let what = Shown::List(target_of(targets, list.of), list.index);
     variables.show(records, what, visible)
 }

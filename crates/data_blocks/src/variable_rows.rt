@@ -10,7 +10,7 @@ ghost use Rattle.script_machine.specs.View.{number_at, value_at};
 ghost use Rattle.target_records.specs.Records.{records_in};
 ghost use Rattle.variables.specs.Held.{HasSameShape};
 
-use crate::arguments::{named, number, value};
+use block_arguments::{held_at, number, value};
 use scratch_values::Args;
 use script_machine::InstanceId;
 use std::alloc::AllocError;
@@ -28,7 +28,7 @@ pub(crate) fn set(
     ensures ok { OnOk result (variables.new ≡ variable_set (named_by (codes "VARIABLE") args.entry.now here (records_in records.now)) (value_at (codes "VALUE") args.entry.now) variables.old) }
     ensures held { HasSameShape variables.old variables.new }
 {
-    let variable = named(args, "VARIABLE", here, records);
+    let variable = held_at(args, "VARIABLE", here, records);
     let value = value(args, "VALUE")?;
     variables.set(variable.of, variable.index, value);
     Ok(())
@@ -45,6 +45,6 @@ pub(crate) fn change(
     ensures new { let v = named_by (codes "VARIABLE") args.entry.now here (records_in records.now) in variables.new ≡ variable_set v (Number (sum_of (number_of (value_of v.ref here (records_in records.now) variables.old)) (number_at (codes "VALUE") args.entry.now))) variables.old }
     ensures held { HasSameShape variables.old variables.new }
 {
-    let variable = named(args, "VARIABLE", here, records);
+    let variable = held_at(args, "VARIABLE", here, records);
     variables.change(variable.of, variable.index, number(args, "VALUE"));
 }
