@@ -72,10 +72,18 @@ fn levels_are_opened_and_given_up(rt: HostRuntime) -> Result<(), Fail> {
     levels.push(FIRST, false)?;
     levels.push(INNER, true)?;
     assert_eq!(rt; levels.depth(), 2);
-    assert!(rt; levels.get(1).is_some_and(|level| level.block == FIRST && !level.warp));
+    assert!(rt;
+        levels
+            .get(1)
+            .is_some_and(|level| level.block == FIRST && !level.warp)
+    );
     assert!(rt; levels.get(2).is_none());
     levels.go_next(NEXT);
-    assert!(rt; levels.top().is_some_and(|level| level.block == NEXT && level.warp));
+    assert!(rt;
+        levels
+            .top()
+            .is_some_and(|level| level.block == NEXT && level.warp)
+    );
     levels.pop();
     assert!(rt; levels.top().is_some_and(|level| level.block == FIRST));
     levels.restart(INNER)?;
@@ -108,7 +116,11 @@ fn parameters_are_seen_from_above(rt: HostRuntime) -> Result<(), Fail> {
     assert!(rt; levels.params().is_none());
     levels.set_params(params(&rt));
     levels.push(INNER, false)?;
-    assert!(rt; levels.params().is_some_and(|params| params.value("n").is_some()));
+    assert!(rt;
+        levels
+            .params()
+            .is_some_and(|params| params.value("n").is_some())
+    );
     Ok(())
 }
 
@@ -281,6 +293,9 @@ fn at_most_65536_levels_are_open(rt: HostRuntime) {
     assert_eq!(rt; threads.push(Which::Slot(1), INNER, false), full);
     assert_eq!(rt; threads.append(Serial(12), DOG, SPRITE, FLAG, FIRST), full);
     assert_eq!(rt; threads.replace(0, Serial(12), SPRITE, FIRST, true), full);
-    assert_eq!(rt; threads.replace(0, Serial(12), SPRITE, FIRST, false), Ok(()));
+    assert_eq!(rt;
+        threads.replace(0, Serial(12), SPRITE, FIRST, false),
+        Ok(())
+    );
     assert_eq!(rt; threads.levels(), 2);
 }
