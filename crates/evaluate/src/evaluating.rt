@@ -17,7 +17,7 @@ use crate::view::{View, sight};
 use cached_blocks::{a_script_is_told, an_expression_is_told};
 use project_file::Operand;
 use project_json::Text;
-use reporters::{contents, items, reported, value};
+use reporters::{contents, reported, variable};
 use scratch_values::{Arg, Args, Held, Value};
 use script_machine::BlockId;
 use script_words::{Counted, Rng, Stop};
@@ -39,11 +39,11 @@ fn operand<'p, R: Rng + Drop>(
 {
     match operand {
         Operand::Literal(literal) => Ok(Held::Lent(literal)),
-        Operand::Variable(variable) => match value(&sight(view), *variable).clone() {
+        Operand::Variable(named) => match variable(&sight(view), *named).clone() {
             Ok(value) => Ok(Held::Own(value)),
             Err(_) => Err(Stop::NoMemory),
         },
-        Operand::List(list) => match contents(alloc, items(&sight(view), *list).as_slice()) {
+        Operand::List(list) => match contents(alloc, &sight(view), *list) {
             Ok(value) => Ok(Held::Own(value)),
             Err(stop) => Err(stop),
         },

@@ -12,7 +12,7 @@ ghost use Rattle.target_records.specs.Records.{records_in};
 ghost use Rattle.reporters.specs.Sight.{seen};
 
 use crate::sight::{Sight, stage};
-use crate::texts::empty_text;
+use operators::empty_text;
 use scratch_number::{Num, of_whole};
 use scratch_values::Value;
 use script_machine::{CostumeNames, Instance, TargetId, TargetRecord};

@@ -4,20 +4,16 @@
 #![tactic(auto)]
 
 mod arguments;
-mod equality;
 mod instances;
 mod keys;
-mod list_contents;
 mod list_items;
-mod mathop;
-mod picking;
 mod properties;
 mod reporting;
 mod rows;
 mod sight;
-mod texts;
-mod written;
 
-pub use list_contents::contents;
 pub use reporting::reported;
-pub use sight::{Sight, items, value};
+pub use sight::{Sight, contents, variable};
+
+#[cfg(test)]
+mod tests;

@@ -9,8 +9,7 @@ ghost use Rattle.script_machine.specs.Random.{indexed};
 ghost use Rattle.script_machine.specs.Reporters as machine;
 ghost use Rattle.script_machine.specs.Words.{made_of, seen_words};
 
-use crate::equality::place_of;
-use crate::texts::empty_text;
+use operators::{empty_text, place_of};
 use scratch_number::{Num, of_whole};
 use scratch_values::{Index, Value, Values, list_index};
 use script_words::{Counted, Rng, Stop};

@@ -9,10 +9,10 @@ ghost use Rattle.script_machine.specs.Words.{made_of, seen_words};
 ghost use Rattle.script_machine.specs.View.{value_at};
 ghost use Rattle.reporters.specs.Sight.{seen};
 
-use crate::arguments::{number, truth};
 use crate::instances::{direction, own, size, x, y};
 use crate::rows;
 use crate::sight::Sight;
+use block_arguments::{number, truth};
 use opcode_table::Opcode;
 use scratch_number::{add, div, modulo, mul, of_whole, round, sub};
 use scratch_values::{Args, Value};

@@ -19,16 +19,14 @@ ghost use Rattle.script_machine.specs.View.{field_at, number_at, text_at, truth_
 ghost use Rattle.script_machine.specs.Words.{made_of, seen_words};
 ghost use Rattle.reporters.specs.Sight.{seen};
 
-use crate::arguments::{field, given, number, truth, variable};
-use crate::equality::{is_among, is_equal};
+use crate::arguments::{given, named};
 use crate::instances::{number_or_name, own, stage_of, target_of, volume};
 use crate::keys::is_pressed;
 use crate::list_items::{item_count, item_number, item_of};
-use crate::picking::pick_random;
 use crate::properties::{distance_to, property_of};
-use crate::sight::{Sight, items, value};
-use crate::written::Written;
-use crate::{contents, mathop, texts};
+use crate::sight::{Sight, contents, items, variable};
+use block_arguments::{field, number, truth};
+use operators::{Written, char_count, has_text, is_among, is_equal, joined, letter, pick_random};
 use scratch_number::{Num, of_whole};
 use scratch_values::{Args, Value, compare};
 use script_words::{Counted, Rng, Stop};
@@ -94,7 +92,7 @@ pub(crate) fn join(alloc: Global, args: &Args<'_>) -> Result<Value, Stop>
     ensures stop { StopIs result (text_value (text_at (codes "STRING1") args.now ++ text_at (codes "STRING2") args.now)) }
 {
     let zero = Value::Number(of_whole(0));
-    texts::joined(
+    joined(
         alloc,
         given(args, "STRING1", &zero),
         given(args, "STRING2", &zero),
@@ -106,7 +104,7 @@ pub(crate) fn letter_of(alloc: Global, args: &Args<'_>) -> Result<Value, AllocEr
     ensures { IfOk result (λ v. v ≡ machine.letter (text_at (codes "STRING") args.now) (number_at (codes "LETTER") args.now)) }
 {
     let zero = Value::Number(of_whole(0));
-    texts::letter(alloc, given(args, "STRING", &zero), number(args, "LETTER"))
+    letter(alloc, given(args, "STRING", &zero), number(args, "LETTER"))
 }
 
 // How many characters a text has.
@@ -114,7 +112,7 @@ pub(crate) fn length_of(args: &Args<'_>) -> Num
     ensures { result ≡ whole (pos (length (chars (text_at (codes "STRING") args.now)))) }
 {
     let zero = Value::Number(of_whole(0));
-    texts::char_count(given(args, "STRING", &zero))
+    char_count(given(args, "STRING", &zero))
 }
 
 // Whether the second text stands within the first. The only error is want of memory.
@@ -122,7 +120,7 @@ pub(crate) fn contains(alloc: Global, args: &Args<'_>) -> Result<bool, AllocErro
     ensures { IfOk result (λ b. b ≡ has_part (folded_of (value_at (codes "STRING1") args.now)) (folded_of (value_at (codes "STRING2") args.now))) }
 {
     let zero = Value::Number(of_whole(0));
-    texts::has_text(
+    has_text(
         alloc,
         given(args, "STRING1", &zero),
         given(args, "STRING2", &zero),
@@ -133,7 +131,7 @@ pub(crate) fn contains(alloc: Global, args: &Args<'_>) -> Result<bool, AllocErro
 pub(crate) fn mathop(alloc: Global, args: &Args<'_>) -> Result<Num, AllocError>
     ensures { IfOk result (λ n. n ≡ machine.mathop (folded (field_at (codes "OPERATOR") args.now)) (number_at (codes "NUM") args.now)) }
 {
-    mathop::mathop(alloc, field(args, "OPERATOR"), number(args, "NUM"))
+    operators::mathop(alloc, field(args, "OPERATOR"), number(args, "NUM"))
 }
 
 // A random number. `Counter` exactly where a word is needed and none is left.
@@ -149,7 +147,7 @@ pub(crate) fn random<R: Rng + Drop>(args: &Args<'_>, words: &mut Counted<R>) -> 
 pub(crate) fn variable_value(args: &Args<'_>, sight: &Sight<'_>) -> Result<Value, AllocError>
     ensures { IfOk result (λ v. v ≡ machine.variable (seen sight.now) args.now) }
 {
-    value(sight, variable(args, "VARIABLE")).clone()
+    variable(sight, named(args, "VARIABLE")).clone()
 }
 
 // The contents of the list. `Text` exactly where they are too long for a value; the only other error is want of memory.
@@ -161,8 +159,7 @@ pub(crate) fn list_contents(
     ensures ok { IfOk result (λ v. text_value (contents_text (machine.items (seen sight.now) args.now)) ≡ Goes v) }
     ensures stop { StopIs result (text_value (contents_text (machine.items (seen sight.now) args.now))) }
 {
-    let items = items(sight, variable(args, "LIST"));
-    contents(alloc, items.as_slice())
+    contents(alloc, sight, named(args, "LIST"))
 }
 
 // An item of the list. `Counter` exactly where a word is needed and none is left; the only other error is want of memory.
@@ -176,7 +173,7 @@ pub(crate) fn item<R: Rng + Drop>(
     ensures stop { StopIs result (then_do (indexed (value_at (codes "INDEX") args.entry.now) (length (machine.items (seen sight.entry.now) args.entry.now)) false (seen_words R.stream words.old)) (made_of (λ i. machine.item_at i (machine.items (seen sight.entry.now) args.entry.now)))) }
 {
     let zero = Value::Number(of_whole(0));
-    let items = items(sight, variable(args, "LIST"));
+    let items = items(sight, named(args, "LIST"));
     item_of(alloc, given(args, "INDEX", &zero), items, words)
 }
 
@@ -187,7 +184,7 @@ pub(crate) fn place_of_item(args: &Args<'_>, sight: &Sight<'_>) -> Num
     let zero = Value::Number(of_whole(0));
     item_number(
         given(args, "ITEM", &zero),
-        items(sight, variable(args, "LIST")),
+        items(sight, named(args, "LIST")),
     )
 }
 
@@ -195,7 +192,7 @@ pub(crate) fn place_of_item(args: &Args<'_>, sight: &Sight<'_>) -> Num
 pub(crate) fn length_of_list(args: &Args<'_>, sight: &Sight<'_>) -> Num
     ensures { result ≡ whole (pos (length (machine.items (seen sight.now) args.now))) }
 {
-    item_count(items(sight, variable(args, "LIST")))
+    item_count(items(sight, named(args, "LIST")))
 }
 
 // Whether the list has an equal item.
@@ -203,7 +200,7 @@ pub(crate) fn contains_item(args: &Args<'_>, sight: &Sight<'_>) -> bool
     ensures { result ≡ list_any (λ i. machine.is_equal i (value_at (codes "ITEM") args.now)) (machine.items (seen sight.now) args.now) }
 {
     let zero = Value::Number(of_whole(0));
-    let items = items(sight, variable(args, "LIST"));
+    let items = items(sight, named(args, "LIST"));
     is_among(given(args, "ITEM", &zero), items.as_slice())
 }
 

@@ -1,14 +1,18 @@
 //! What reporters read.
 
-ghost use Rattle.std.specs.Prelude.{◌≡◌, ◌≤◌, length};
+ghost use Rattle.std.specs.Prelude.{◌≡◌, ◌≤◌, length, IfOk};
 ghost use Rattle.script_machine.specs.DataRows.{most_items};
+ghost use Rattle.script_machine.specs.Outcome.{Goes, StopIs};
 ghost use Rattle.script_machine.specs.Program as program;
 ghost use Rattle.script_machine.specs.Stores.{items_of, value_of};
+ghost use Rattle.script_machine.specs.Texts.{contents_text, text_value};
 ghost use Rattle.target_records.specs.Records.{records_in};
 
 use devices::Devices;
 use scratch_values::{Params, Value, Values, VarRef};
 use script_machine::InstanceId;
+use script_words::Stop;
+use std::alloc::Global;
 use target_records::Records;
 use targets::Targets;
 use variables::Variables;
@@ -33,20 +37,20 @@ pub(crate) fn stage(records: &Records) -> InstanceId
     InstanceId(u64::from(records.stage().0))
 }
 
-/// The value of a variable of the instance that evaluates, or of the stage.
+/// The value of a variable of the instance that evaluates, or of the stage; 0 where there is none.
 #[inline]
-pub fn value<'a>(sight: &Sight<'a>, variable: VarRef) -> &'a Value
-    ensures { result.now ≡ value_of variable sight.now.here (records_in sight.now.records.now) sight.now.variables.now }
+pub fn variable<'a>(sight: &Sight<'a>, named: VarRef) -> &'a Value
+    ensures { result.now ≡ value_of named sight.now.here (records_in sight.now.records.now) sight.now.variables.now }
 {
-    match variable {
+    match named {
         VarRef::Own(index) => sight.variables.value(sight.here, index),
         VarRef::Stage(index) => sight.variables.value(stage(sight.records), index),
     }
 }
 
-/// The items of a list of the instance that evaluates, or of the stage.
+// The items of a list of the instance that evaluates, or of the stage.
 #[inline]
-pub fn items<'a>(sight: &Sight<'a>, list: VarRef) -> &'a Values
+pub(crate) fn items<'a>(sight: &Sight<'a>, list: VarRef) -> &'a Values
     ensures items { result.now ≡ items_of list sight.now.here (records_in sight.now.records.now) sight.now.variables.now }
     ensures few { length result.now ≤ most_items }
 {
@@ -54,4 +58,13 @@ pub fn items<'a>(sight: &Sight<'a>, list: VarRef) -> &'a Values
         VarRef::Own(index) => sight.variables.items(sight.here, index),
         VarRef::Stage(index) => sight.variables.items(stage(sight.records), index),
     }
+}
+
+/// The contents of a list of the instance that evaluates, or of the stage, as a text. `Text` exactly where they are too long
+/// for a value; the only other error is want of memory.
+pub fn contents(alloc: Global, sight: &Sight<'_>, list: VarRef) -> Result<Value, Stop>
+    ensures ok { IfOk result (λ v. text_value (contents_text (items_of list sight.now.here (records_in sight.now.records.now) sight.now.variables.now)) ≡ Goes v) }
+    ensures stop { StopIs result (text_value (contents_text (items_of list sight.now.here (records_in sight.now.records.now) sight.now.variables.now))) }
+{
+    operators::contents(alloc, items(sight, list).as_slice())
 }

@@ -1,6 +1,6 @@
 use Rattle.std.proofs.Common.{sym, []}
 use Rattle.scratch_values.specs.declared.value.Value.TheVariants.{Text}
-use Rattle.reporters.proofs.Defaults.{default_read, made_is}
+use Rattle.operators.proofs.Defaults.{default_read, made_is}
 use Rattle.reporters.proofs.list_items.item.Goals as goal
 
 pub returns-in-None : goal.returns-in-None

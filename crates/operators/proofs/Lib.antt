@@ -1,0 +1,3 @@
+pub mod Defaults
+pub mod Parts
+pub mod Pieces
