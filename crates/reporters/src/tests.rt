@@ -16,7 +16,7 @@ use variables::Variables;
 
 mod conditions;
 mod functions;
-mod lists;
+mod list_rows;
 mod picks;
 mod senses;
 mod sums;
@@ -49,6 +49,7 @@ type Row = (Opcode, Given, Given, Given);
 type Single = (Opcode, Given, Given);
 
 // A project and the stores of a run of it.
+#[derive(Drop)]
 struct World {
     records: Records,
     targets: Targets,
@@ -57,7 +58,7 @@ struct World {
 }
 
 // The world that begins, after 2.5 seconds, with the mouse down at -7, 9 and an answer.
-fn world(rt: &(impl Abort + AllocGlobal)) -> Result<World, Fail> {
+fn opened(rt: &(impl Abort + AllocGlobal)) -> Result<World, Fail> {
     assert!(rt; PROJECT.len() < 4_000_000_000);
     let document = read_json(rt.alloc(), PROJECT.as_bytes())?;
     let records = read(rt.alloc(), &document)?;
@@ -232,7 +233,7 @@ fn of_pair<R: Rng + Drop>(
 }
 
 fn try_pairs(rt: &(impl Abort + AllocGlobal), rows: &[Row]) -> Result<(), Fail> {
-    let world = world(rt)?;
+    let world = opened(rt)?;
     for (op, first, second, wanted) in rows {
         let told = of_pair(rt, &world, *op, *first, *second, &mut pcg(0, 0))?;
         assert!(rt;
@@ -244,7 +245,7 @@ fn try_pairs(rt: &(impl Abort + AllocGlobal), rows: &[Row]) -> Result<(), Fail> 
 }
 
 fn try_singles(rt: &(impl Abort + AllocGlobal), rows: &[Single]) -> Result<(), Fail> {
-    let world = world(rt)?;
+    let world = opened(rt)?;
     let fields = Vec::new(rt.alloc());
     for (op, input, wanted) in rows {
         let told = reported_by_one(rt, &world, *op, &fields, *input)?;
@@ -255,7 +256,7 @@ fn try_singles(rt: &(impl Abort + AllocGlobal), rows: &[Single]) -> Result<(), F
 
 #[test]
 fn the_answer_and_a_variable_are_told(rt: HostRuntime) -> Result<(), Fail> {
-    let world = world(&rt)?;
+    let world = opened(&rt)?;
     let none = Vec::new(rt.alloc());
     let answer = reported_by_none(&rt, &world, Opcode::SensingAnswer, &none)?;
     assert!(rt; answer == value(&rt, Given::Text("yes"))?);
@@ -270,7 +271,7 @@ fn the_answer_and_a_variable_are_told(rt: HostRuntime) -> Result<(), Fail> {
 
 #[test]
 fn a_parameter_is_told(rt: HostRuntime) -> Result<(), Fail> {
-    let world = world(&rt)?;
+    let world = opened(&rt)?;
     let mut params = Params::new(rt.alloc());
     let name = Name::from_str(rt.alloc(), "x")?;
     params.push(name, value(&rt, Given::Of(4_000_000))?)?;
@@ -287,7 +288,7 @@ fn a_parameter_is_told(rt: HostRuntime) -> Result<(), Fail> {
 
 #[test]
 fn an_absent_input_is_zero(rt: HostRuntime) -> Result<(), Fail> {
-    let world = world(&rt)?;
+    let world = opened(&rt)?;
     let none = Vec::new(rt.alloc());
     let join = reported_by_none(&rt, &world, Opcode::OperatorJoin, &none)?;
     assert!(rt; join == value(&rt, Given::Text("00"))?);

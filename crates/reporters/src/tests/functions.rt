@@ -1,7 +1,7 @@
 //! Functions of a number by name.
 
 use super::Given::{Nan, Of, Text, Truth};
-use super::{Given, field, reported_by_one, value, world};
+use super::{Given, field, opened, reported_by_one, value};
 use opcode_table::Opcode;
 use std::test::Fail;
 
@@ -70,7 +70,7 @@ static FUNCTIONS: [(&'static str, Given, Given); 60] = [
 
 #[test]
 fn functions_are_found_by_name(rt: HostRuntime) -> Result<(), Fail> {
-    let world = world(&rt)?;
+    let world = opened(&rt)?;
     for (name, number, wanted) in &FUNCTIONS {
         let fields = field(&rt, "OPERATOR", name, None)?;
         let told = reported_by_one(&rt, &world, Opcode::OperatorMathOp, &fields, *number)?;

@@ -1,7 +1,7 @@
 //! Random numbers and items.
 
 use super::Given::{Inf, Nan, NegInf, Of, Text, Truth};
-use super::{Given, LIST, field, of_pair, reported_with, value, with_items, world};
+use super::{Given, LIST, field, of_pair, opened, reported_with, value, with_items};
 use opcode_table::Opcode;
 use scratch_number::of_whole;
 use scratch_values::Value;
@@ -212,9 +212,10 @@ static ITEMS: [(Given, u32, u64, u64, u32, u64); 43] = [
 
 #[test]
 fn numbers_are_picked(rt: HostRuntime) -> Result<(), Fail> {
-    let world = world(&rt)?;
+    let world = opened(&rt)?;
     for (from, to, seed, before, wanted, after) in &PICKED {
-        let mut words = pcg(*seed, *before % 1_000_000);
+        assert!(rt; *before < 1 << 62);
+        let mut words = pcg(*seed, *before);
         let told = of_pair(&rt, &world, Opcode::OperatorRandom, *from, *to, &mut words)?;
         assert!(rt; told == Ok(value(&rt, *wanted)?), "{from:?} {to:?}");
         assert!(rt; words.drawn() == *after, "{from:?} {to:?}");
@@ -224,7 +225,7 @@ fn numbers_are_picked(rt: HostRuntime) -> Result<(), Fail> {
 
 #[test]
 fn items_are_picked(rt: HostRuntime) -> Result<(), Fail> {
-    let mut world = world(&rt)?;
+    let mut world = opened(&rt)?;
     let fields = field(&rt, "LIST", "l", LIST)?;
     for (place, count, seed, before, wanted, after) in &ITEMS {
         let items = [
@@ -232,8 +233,10 @@ fn items_are_picked(rt: HostRuntime) -> Result<(), Fail> {
             Given::Of(2_000_000),
             Given::Of(3_000_000),
         ];
-        with_items(&rt, &mut world, &items[..(*count % 4) as usize])?;
-        let mut words = pcg(*seed, *before % 1_000_000);
+        assert!(rt; *count <= 3);
+        with_items(&rt, &mut world, &items[..*count as usize])?;
+        assert!(rt; *before < 1 << 62);
+        let mut words = pcg(*seed, *before);
         let told = reported_with(
             &rt,
             &world,
@@ -256,7 +259,7 @@ fn items_are_picked(rt: HostRuntime) -> Result<(), Fail> {
 
 #[test]
 fn no_word_is_left(rt: HostRuntime) -> Result<(), Fail> {
-    let world = world(&rt)?;
+    let world = opened(&rt)?;
     let mut words = pcg(1, (1 << 62) - 1);
     let (low, high) = (Given::Of(1_000_000), Given::Of(2_000_000));
     let told = of_pair(&rt, &world, Opcode::OperatorRandom, low, high, &mut words)?;

@@ -2,7 +2,7 @@
 
 use super::Given::{Inf, NegInf, Of, Text, Truth};
 use super::{
-    ANN, BEN, Given, World, field, number, reported_by_none, reported_by_one, value, world,
+    ANN, BEN, Given, World, field, number, opened, reported_by_none, reported_by_one, value,
 };
 use opcode_table::Opcode;
 use scratch_values::Value;
@@ -642,7 +642,7 @@ fn hold(rt: &impl Abort, world: &mut World, keys: &[Key]) -> Result<(), Fail> {
 fn keys_are_pressed(rt: HostRuntime) -> Result<(), Fail> {
     let fields = Vec::new(rt.alloc());
     for (key, held, wanted) in &PRESSED {
-        let mut world = world(&rt)?;
+        let mut world = opened(&rt)?;
         hold(&rt, &mut world, held)?;
         let told = reported_by_one(&rt, &world, Opcode::SensingKeyPressed, &fields, *key)?;
         assert!(rt; told == Value::Truth(*wanted), "{key:?} {held:?}");
@@ -652,7 +652,7 @@ fn keys_are_pressed(rt: HostRuntime) -> Result<(), Fail> {
 
 #[test]
 fn distances_are_told(rt: HostRuntime) -> Result<(), Fail> {
-    let mut world = world(&rt)?;
+    let mut world = opened(&rt)?;
     let fields = Vec::new(rt.alloc());
     for (x, y, other_x, other_y, wanted) in &DISTANCES {
         assert!(rt; world.targets.is_live(ANN));
@@ -672,7 +672,7 @@ fn distances_are_told(rt: HostRuntime) -> Result<(), Fail> {
 
 #[test]
 fn the_mouse_is_at_a_distance(rt: HostRuntime) -> Result<(), Fail> {
-    let mut world = world(&rt)?;
+    let mut world = opened(&rt)?;
     let fields = Vec::new(rt.alloc());
     assert!(rt; world.targets.is_live(ANN));
     world
@@ -688,7 +688,7 @@ fn the_mouse_is_at_a_distance(rt: HostRuntime) -> Result<(), Fail> {
 
 #[test]
 fn properties_are_told(rt: HostRuntime) -> Result<(), Fail> {
-    let world = world(&rt)?;
+    let world = opened(&rt)?;
     for (property, object, wanted) in &PROPERTIES {
         let fields = field(&rt, "PROPERTY", property, None)?;
         let told = reported_by_one(&rt, &world, Opcode::SensingOf, &fields, Text(object))?;
@@ -699,7 +699,7 @@ fn properties_are_told(rt: HostRuntime) -> Result<(), Fail> {
 
 #[test]
 fn instances_and_devices_are_told(rt: HostRuntime) -> Result<(), Fail> {
-    let world = world(&rt)?;
+    let world = opened(&rt)?;
     let fields = Vec::new(rt.alloc());
     for (op, wanted) in &TOLD {
         let told = reported_by_none(&rt, &world, *op, &fields)?;
@@ -720,7 +720,7 @@ static COSTUMES: [(Opcode, &str, Given); 6] = [
 
 #[test]
 fn costumes_are_told(rt: HostRuntime) -> Result<(), Fail> {
-    let world = world(&rt)?;
+    let world = opened(&rt)?;
     for (op, asked, wanted) in &COSTUMES {
         let fields = field(&rt, "NUMBER_NAME", asked, None)?;
         let told = reported_by_none(&rt, &world, *op, &fields)?;

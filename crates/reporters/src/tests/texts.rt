@@ -1,7 +1,7 @@
 //! Texts.
 
 use super::Given::{Inf, Nan, Of, Text, Truth};
-use super::{Row, Single, of_two, try_pairs, try_singles, world};
+use super::{Row, Single, of_two, opened, try_pairs, try_singles};
 use opcode_table::Opcode;
 use scratch_values::{BoundText, Value};
 use script_words::{Stop, pcg};
@@ -871,7 +871,7 @@ fn letters(rt: &(impl Abort + AllocGlobal), count: usize) -> Result<Value, Fail>
 
 #[test]
 fn a_text_is_joined_up_to_its_limit(rt: HostRuntime) -> Result<(), Fail> {
-    let world = world(&rt)?;
+    let world = opened(&rt)?;
     let op = Opcode::OperatorJoin;
     let whole = of_two(
         &rt,

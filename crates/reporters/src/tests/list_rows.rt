@@ -1,7 +1,7 @@
 //! Lists.
 
 use super::Given::{Of, Text, Truth};
-use super::{Given, LIST, field, reported_by_none, reported_by_one, value, with_items, world};
+use super::{Given, LIST, field, opened, reported_by_none, reported_by_one, value, with_items};
 use opcode_table::Opcode;
 use scratch_number::of_whole;
 use scratch_values::Value;
@@ -448,7 +448,7 @@ static HELD: [(&'static [Given], Given, bool); 40] = [
 
 #[test]
 fn contents_are_joined(rt: HostRuntime) -> Result<(), Fail> {
-    let mut world = world(&rt)?;
+    let mut world = opened(&rt)?;
     let fields = field(&rt, "LIST", "l", LIST)?;
     for (items, wanted) in &CONTENTS {
         with_items(&rt, &mut world, items)?;
@@ -462,7 +462,7 @@ fn contents_are_joined(rt: HostRuntime) -> Result<(), Fail> {
 
 #[test]
 fn items_are_found(rt: HostRuntime) -> Result<(), Fail> {
-    let mut world = world(&rt)?;
+    let mut world = opened(&rt)?;
     let fields = field(&rt, "LIST", "l", LIST)?;
     for (items, item, wanted) in &PLACES {
         with_items(&rt, &mut world, items)?;
@@ -477,7 +477,7 @@ fn items_are_found(rt: HostRuntime) -> Result<(), Fail> {
 
 #[test]
 fn items_are_among_others(rt: HostRuntime) -> Result<(), Fail> {
-    let mut world = world(&rt)?;
+    let mut world = opened(&rt)?;
     let fields = field(&rt, "LIST", "l", LIST)?;
     for (items, item, wanted) in &HELD {
         with_items(&rt, &mut world, items)?;
