@@ -51,32 +51,38 @@ fn cached(rt: &impl Abort, alloc: Global) -> CachedBlocks {
     cache_blocks(alloc, table.blocks(), &refs).expect(rt, "memory")
 }
 
-fn is_text(operand: &Operand, text: &str) -> bool {
+fn is_text(operand: Option<&Operand>, text: &str) -> bool {
     match operand {
-        Operand::Literal(Value::Text(own)) => own.as_str() == text,
+        Some(Operand::Literal(Value::Text(own))) => own.as_str() == text,
         _ => false,
     }
 }
 
-fn is_variable(operand: &Operand, variable: VarRef) -> bool {
+fn is_variable(operand: Option<&Operand>, variable: VarRef) -> bool {
     match operand {
-        Operand::Variable(own) => *own == variable,
+        Some(Operand::Variable(own)) => *own == variable,
         _ => false,
     }
 }
 
-fn is_block(operand: &Operand, id: BlockId) -> bool {
+fn is_block(operand: Option<&Operand>, id: BlockId) -> bool {
     match operand {
-        Operand::Block(own) => *own == id,
+        Some(Operand::Block(own)) => *own == id,
         _ => false,
     }
 }
 
-// Whether this is what is evaluated for the input of this number and name.
-fn has_input(block: &CachedBlock, k: usize, name: &str, is: impl Fn(&Operand) -> bool) -> bool {
+// What is evaluated for the input of this number, where it has this name.
+fn input<'b>(block: &'b CachedBlock, k: usize, name: &str) -> Option<&'b Operand> {
     match block.inputs.as_slice().get(k) {
-        Some((own, operand)) => own.as_str() == name && is(operand),
-        None => false,
+        Some((own, operand)) => {
+            if own.as_str() == name {
+                Some(operand)
+            } else {
+                None
+            }
+        }
+        None => None,
     }
 }
 
@@ -85,7 +91,7 @@ fn a_menu_is_its_text_and_a_field_names_its_variable(rt: HostRuntime) {
     let blocks = cached(&rt, rt.alloc());
     let set = blocks.as_slice().get(0).expect(&rt, "a block");
     assert!(rt; set.op == Opcode::DataSetVariableTo);
-    assert!(rt; has_input(set, 0, "VALUE", |operand| is_text(operand, "hello")));
+    assert!(rt; is_text(input(set, 0, "VALUE"), "hello"));
     assert!(rt; set.in_order);
     let field = set.fields.as_slice().get(0).expect(&rt, "a field");
     assert!(rt; field.text.as_str() == "n");
@@ -97,14 +103,7 @@ fn a_menu_is_its_text_and_a_field_names_its_variable(rt: HostRuntime) {
 fn branches_are_found_by_their_names(rt: HostRuntime) {
     let blocks = cached(&rt, rt.alloc());
     let choice = blocks.as_slice().get(2).expect(&rt, "a block");
-    assert!(rt;
-        has_input(
-            choice,
-            0,
-            "CONDITION",
-            |operand| is_block(operand, BlockId(3))
-        )
-    );
+    assert!(rt; is_block(input(choice, 0, "CONDITION"), BlockId(3)));
     assert_eq!(rt; choice.inputs.len(), 1);
     assert!(rt; choice.first == Some(BlockId(4)));
     assert!(rt; choice.second == Some(BlockId(0)));
@@ -115,15 +114,8 @@ fn branches_are_found_by_their_names(rt: HostRuntime) {
 fn inputs_stand_in_document_order(rt: HostRuntime) {
     let blocks = cached(&rt, rt.alloc());
     let equals = blocks.as_slice().get(3).expect(&rt, "a block");
-    assert!(rt; has_input(equals, 0, "OPERAND2", |operand| is_text(operand, "1")));
-    assert!(rt;
-        has_input(
-            equals,
-            1,
-            "OPERAND1",
-            |operand| is_variable(operand, VarRef::Stage(3))
-        )
-    );
+    assert!(rt; is_text(input(equals, 0, "OPERAND2"), "1"));
+    assert!(rt; is_variable(input(equals, 1, "OPERAND1"), VarRef::Stage(3)));
     assert!(rt; !equals.in_order);
 }
 
