@@ -6,6 +6,7 @@ pub mod Program
 pub mod BubbleText
 pub mod Effects
 pub mod Threads
+pub mod Keeping
 pub mod Stores
 pub mod Places
 pub mod World

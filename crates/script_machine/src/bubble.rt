@@ -1,9 +1,10 @@
 //! Bubbles of sprites.
 
-ghost use Rattle.std.specs.Prelude.{◌≡◌, []};
+ghost use Rattle.std.specs.Prelude.{◌≡◌, [], IfOk};
+ghost use Rattle.script_machine.specs.BubbleText as bubbles;
 
 use project_json::Text;
-use std::alloc::Global;
+use std::alloc::{AllocError, Global};
 use std::marker::Model;
 
 /// A say bubble or a think bubble.
@@ -38,6 +39,16 @@ impl BubbleText {
         BubbleText {
             text: Text::new(alloc),
         }
+    }
+
+    /// The first 330 characters of a text. The only error is want of memory.
+    pub fn cut(alloc: Global, text: &str) -> Result<BubbleText, AllocError>
+        ensures { IfOk result (λ t. t ≡ bubbles.cut text.now) }
+    {
+        let text = format!(in alloc; "{:.330}", text)?;
+        Ok(BubbleText {
+            text: Text::from_string(text),
+        })
     }
 
     /// The text.

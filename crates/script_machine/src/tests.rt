@@ -40,3 +40,12 @@ fn an_effect_is_set_and_the_others_stay(rt: HostRuntime) {
 fn a_new_bubble_has_no_text(rt: HostRuntime) {
     assert_eq!(rt; BubbleText::new(rt.alloc()).as_str(), "");
 }
+
+#[test]
+fn a_bubble_has_the_first_characters_of_a_text(rt: HostRuntime) {
+    let cut = match BubbleText::cut(rt.alloc(), "Hé!") {
+        Ok(cut) => cut,
+        Err(_) => panic!(rt; "no memory"),
+    };
+    assert_eq!(rt; cut.as_str(), "Hé!");
+}

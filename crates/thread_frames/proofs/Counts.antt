@@ -9,8 +9,9 @@ use Rattle.std.proofs.lemmas.Option.{slice_get_within, get_or_from_slice_get}
 use Rattle.script_machine.specs.declared.threads.Which.{Which}
 use Rattle.script_machine.specs.declared.threads.Which.TheVariants.{Slot, Detached}
 use Rattle.script_machine.specs.Places.{Places, at_place, put, sum_some}
+use Rattle.script_machine.specs.Keeping.{is_called}
 use Rattle.thread_frames.specs.declared.level.Level.{Level}
-use Rattle.thread_frames.specs.Levels.{on_top, without_top, is_called, from_call, unwound}
+use Rattle.thread_frames.specs.Levels.{on_top, without_top, from_call, unwound}
 use Rattle.thread_frames.specs.Threads.{Thread, without_done}
 use Rattle.thread_frames.specs.Counting.{open_in, IsCount}
 

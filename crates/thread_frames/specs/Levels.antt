@@ -3,6 +3,7 @@ pub use Rattle.thread_frames.specs.declared.level.Level.{Level}
 use Rattle.std.specs.Prelude.{ℕ, Bool, true, false, if◌then◌else◌, List, [], ◌∷◌, Option, Some, None}
 use Rattle.script_machine.specs.declared.threads.Context.{Context}
 use Rattle.script_machine.specs.declared.threads.Context.TheVariants.{Fresh, Called}
+use Rattle.script_machine.specs.Keeping.{is_called}
 use Rattle.script_machine.specs.Threads.{Params}
 
 -- a level that was just opened
@@ -30,10 +31,6 @@ on_top f (top ∷ under) = f top ∷ under
 abbrev pub without_top : List Level → List Level
 without_top [] = []
 without_top (top ∷ under) = under
-
-abbrev pub is_called : Context → Bool
-is_called Called = true
-is_called _ = false
 
 -- the levels from the nearest one, from the top, that has called
 abbrev pub from_call : List Level → List Level

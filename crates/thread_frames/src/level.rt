@@ -18,7 +18,8 @@ pub struct Level {
 impl Level {
     ghost use Rattle.std.specs.Prelude.{◌≡◌};
     ghost use Rattle.script_machine.specs.declared.threads.Context.TheVariants.{Fresh};
-    ghost use Rattle.thread_frames.specs.Levels.{new_level, at_next, with_loop, with_context, with_params, is_called};
+    ghost use Rattle.script_machine.specs.Keeping.{is_called};
+    ghost use Rattle.thread_frames.specs.Levels.{new_level, at_next, with_loop, with_context, with_params};
 
     // A level that was just opened.
     #[inline]

@@ -3,7 +3,8 @@
 ghost use Rattle.std.specs.Prelude.{◌≡◌, [], ◌∷◌, length, nat_lt, slice_get, false, OnOk, OnErr};
 ghost use Rattle.std.specs.Option.{option_copied, option_map};
 ghost use Rattle.script_machine.specs.declared.threads.Context.TheVariants.{Fresh};
-ghost use Rattle.thread_frames.specs.Levels.{new_level, at_next, with_loop, with_context, with_params, on_top, without_top, top_context, near_params, is_called, from_call, unwound};
+ghost use Rattle.thread_frames.specs.Levels.{new_level, at_next, with_loop, with_context, with_params, on_top, without_top, top_context, near_params, from_call, unwound};
+ghost use Rattle.script_machine.specs.Keeping.{is_called};
 
 use crate::level::Level;
 use scratch_values::Params;

@@ -9,7 +9,10 @@ use Rattle.script_machine.specs.declared.threads.Context.{Context}
 use Rattle.script_machine.specs.declared.threads.Context.TheVariants.{Fresh, Repeat, Wait, Glide, Started, Asked, Spoken, Called}
 use Rattle.script_machine.specs.declared.threads.Control.{Control}
 use Rattle.script_machine.specs.declared.threads.Control.TheVariants.{Branch, Yield, YieldTick, Promise, Call, Start}
-use Rattle.thread_frames.specs.Levels.{is_called}
+
+abbrev pub is_called : Context → Bool
+is_called Called = true
+is_called _ = false
 
 -- no fewer than 0 turns are left
 abbrev pub is_left : Count → Bool
