@@ -2,4 +2,4 @@ mod Steps
 mod Branches
 mod Names
 mod Blocks
-mod Told
+pub mod Told

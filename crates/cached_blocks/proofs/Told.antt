@@ -31,7 +31,7 @@ cached_from sheet n (suc k) (b ∷ bs) c h =
     let found = cached_from sheet (n + 1) k bs c h in
     (found.0, found.1, found.2 ∙ ap (λ m. cached_block sheet m found.0) (let e : n + 1 + k ≡ n + suc k = omega arith in e))
 
-held : (sheet : Sheet) (k : ℕ) (c : CachedBlock) → slice_get (cached_blocks sheet) k ≡ Some c → (b : Block) × (slice_get sheet.blocks k ≡ Some b) × (c ≡ cached_block sheet k b)
+pub held : (sheet : Sheet) (k : ℕ) (c : CachedBlock) → slice_get (cached_blocks sheet) k ≡ Some c → (b : Block) × (slice_get sheet.blocks k ≡ Some b) × (c ≡ cached_block sheet k b)
 held sheet k c h =
     let found = cached_from sheet 0 k sheet.blocks c h in
     (found.0, found.1, found.2 ∙ ap (λ m. cached_block sheet m found.0) (let e : 0 + k ≡ k = omega arith in e))

@@ -63,10 +63,11 @@ impl Threads {
         })
     }
 
-    /// How many levels are open, those of a detached thread included.
+    /// How many levels are open, those of a detached thread included: no more than 65,536.
     #[inline]
     pub fn levels(&self) -> u32
-        ensures { result ≡ open_levels frames self.now }
+        ensures open { result ≡ open_levels frames self.now }
+        ensures few { open_levels frames self.now ≤ most_levels }
     {
         self.open_levels as u32
     }

@@ -1,0 +1,5 @@
+pub mod Fits
+pub mod Items
+pub mod Settles
+pub mod Unwinds
+pub mod Moves
