@@ -1,0 +1,7 @@
+//! One execution of a thread on the whole state of a run (scratch-vm, engine/execute.js and engine/sequencer.js).
+#![tactic(auto)]
+
+mod moving;
+mod run;
+
+pub use run::Run;
