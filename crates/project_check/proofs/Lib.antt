@@ -3,4 +3,4 @@ pub mod Resolved
 pub mod FirstTooMany
 pub mod Linking
 pub mod Caching
-mod Defining
+pub mod Defining

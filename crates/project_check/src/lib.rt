@@ -11,6 +11,7 @@ mod project;
 
 pub use heads::Heads;
 pub use loading::load;
+pub use procedures::Callee;
 pub use project::Project;
 
 #[cfg(test)]

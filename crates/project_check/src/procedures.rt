@@ -1,12 +1,12 @@
 //! The definitions of procedures, by code.
 
 ghost use Rattle.std.specs.Prelude.{◌≡◌, Some, find};
-ghost use Rattle.std.specs.Option.{option_copied};
+ghost use Rattle.std.specs.Option.{option_copied, option_map};
 ghost use Rattle.opcode_table.specs.declared.shape.Role.TheVariants as role;
 ghost use Rattle.project_file.specs.declared.blocks.Input.TheVariants as held;
 ghost use Rattle.project_file.specs.Linked.{has_role, named};
 ghost use Rattle.project_file.specs.Trees.{prototype_at, linked_prototype};
-ghost use Rattle.project_check.specs.Procedures.{bare, has_code, defines, defines_at};
+ghost use Rattle.project_check.specs.Procedures.{bare, callee_at, callee_in, defined, defined_at, defines_at, has_code};
 
 use opcode_table::{Role, spec};
 use project_file::{Block, Code, Input, Link, Mutation, Prototype};
@@ -89,35 +89,57 @@ fn has_code(prototype: Option<&Prototype>, code: &str) -> bool
     }
 }
 
-// Whether a block defines the procedure of the code.
-fn defines(blocks: &[Block], block: &Block, code: &str) -> bool
-    ensures { result ≡ defines blocks.now code.now block.now }
+// The prototype of a block that is a definition.
+fn defined<'a>(blocks: &'a [Block], block: &Block) -> Option<&'a Prototype>
+    ensures { option_copied result ≡ defined blocks.now block.now }
 {
     if is_definition(&block.code) {
-        let input = named("custom_block", block.inputs.as_slice());
-        has_code(linked_prototype(blocks, input), code)
+        linked_prototype(blocks, named("custom_block", block.inputs.as_slice()))
     } else {
-        false
+        None
     }
 }
 
-fn defines_at(blocks: &[Block], id: &BlockId, code: &str) -> bool
-    ensures { result ≡ defines_at blocks.now code.now id.now }
+fn defined_at(blocks: &[Block], id: BlockId) -> Option<&Prototype>
+    ensures { option_copied result ≡ defined_at blocks.now id }
 {
     match blocks.get(id.0 as usize) {
-        Some(block) => defines(blocks, block, code),
-        None => false,
+        Some(block) => defined(blocks, block),
+        None => None,
     }
 }
 
-/// The first of these heads that defines the procedure of the code.
-pub(crate) fn definition(blocks: &[Block], heads: &[BlockId], code: &str) -> Option<BlockId>
+// The first of these heads that defines the procedure of the code.
+fn definition(blocks: &[Block], heads: &[BlockId], code: &str) -> Option<BlockId>
     ensures { result ≡ find (defines_at blocks.now code.now) heads.now }
 {
     for id in heads {
-        if defines_at(blocks, id, code) {
+        if has_code(defined_at(blocks, *id), code) {
             return Some(*id);
         }
     }
     None
+}
+
+/// A procedure that a target defines: its definition, with which its body begins, and what its prototype says of it.
+#[derive(Clone, Copy, Debug)]
+pub struct Callee<'p> {
+    pub definition: BlockId,
+    pub prototype: &'p Prototype,
+}
+
+// The procedure of the code that the first of these heads defines.
+pub(crate) fn called<'a>(blocks: &'a [Block], heads: &[BlockId], code: &str) -> Option<Callee<'a>>
+    ensures { option_map callee_in result ≡ callee_at blocks.now (find (defines_at blocks.now code.now) heads.now) }
+{
+    match definition(blocks, heads, code) {
+        Some(definition) => match defined_at(blocks, definition) {
+            Some(prototype) => Some(Callee {
+                definition,
+                prototype,
+            }),
+            None => None,
+        },
+        None => None,
+    }
 }

@@ -7,7 +7,7 @@ ghost use Rattle.project_check.specs.Kept.{IsProjectOf};
 ghost use Rattle.project_check.specs.Parts.{is_part};
 
 use crate::heads::Heads;
-use crate::procedures::definition;
+use crate::procedures::{Callee, called};
 use block_table::BlockTable;
 use cached_blocks::{CachedBlock, CachedBlocks};
 use linked_blocks::BlockLinks;
@@ -57,15 +57,16 @@ fn ref_in(refs: &[Resolved], in_input: bool, part: &str) -> Option<VarRef>
 }
 
 impl Project {
-    ghost use Rattle.std.specs.Prelude.{◌≡◌, ◌<◌, true, false, length, slice_get, slice_index, option_map, Some, IfSome};
+    ghost use Rattle.std.specs.Prelude.{◌≡◌, ◌<◌, true, false, length, slice_get, slice_index, option_map, find, Some, IfSome};
     ghost use Rattle.target_records.specs.Records.{records_in};
     ghost use Rattle.project_file.specs.Linked.{IsClosed, AreRanks};
     ghost use Rattle.project_file.specs.Resolving as told;
     ghost use Rattle.project_file.specs.Trees.{script};
     ghost use Rattle.cached_blocks.specs.Cached.{cached_blocks};
-    ghost use Rattle.script_machine.specs.Program.{procedure};
+    ghost use Rattle.script_machine.specs.Program.{definition_of, procedure};
     ghost use Rattle.project_check.specs.Counts.{block_count};
     ghost use Rattle.project_check.specs.Heads.{head_numbers};
+    ghost use Rattle.project_check.specs.Procedures.{callee_at, callee_in, defines_at, procedure_in};
     ghost use Rattle.project_check.specs.Loaded.{tables_of, program_of, blocks_at, names_at, ranks_at, sheet_at};
 
     /// The records of its targets and monitors.
@@ -110,15 +111,37 @@ impl Project {
         &self.heads[target.0 as usize]
     }
 
-    /// The definition of a target's procedure with the code: the first head that defines it. `None` where the target has
-    /// none. The procedure's body begins with it.
-    pub fn procedure(&self, target: TargetId, code: &str) -> Option<BlockId>
+    // The procedure of a target that is there.
+    fn callee_of(&self, target: TargetId, code: &str) -> Option<Callee<'_>>
         requires { target < length (tables_of self.now) }
+        ensures { option_map callee_in result ≡ callee_at (blocks_at target self.now) (find (defines_at (blocks_at target self.now) code.now) (head_numbers (blocks_at target self.now))) }
+    {
+        let blocks = self.tables[target.0 as usize].blocks();
+        called(blocks, self.heads[target.0 as usize].as_slice(), code)
+    }
+
+    /// A target's procedure with the code: the first head that defines it, and its prototype. `None` exactly where the target
+    /// has none, as where there is no such target. The procedure's body begins with the definition.
+    pub fn callee(&self, target: TargetId, code: &str) -> Option<Callee<'_>>
+        ensures procedure { option_map (λ c. procedure_in (sheet_at target self.now) (callee_in c)) result ≡ procedure target code.now (program_of self.now) }
+        ensures begins { IfSome result (λ c. definition_of (procedure_in (sheet_at target self.now) (callee_in c)) ≡ c.definition) }
+        ensures member { IfSome result (λ c. c.definition < length (blocks_at target self.now)) }
+    {
+        if target.0 >= self.target_count() {
+            return None;
+        }
+        self.callee_of(target, code)
+    }
+
+    /// The definition of a target's procedure with the code, as `callee` gives it.
+    pub fn procedure(&self, target: TargetId, code: &str) -> Option<BlockId>
         ensures body { option_map (λ k. script (sheet_at target self.now) (Some k)) result ≡ option_map (λ q. q.body) (procedure target code.now (program_of self.now)) }
         ensures member { IfSome result (λ k. k < length (blocks_at target self.now)) }
     {
-        let blocks = self.tables[target.0 as usize].blocks();
-        definition(blocks, self.heads[target.0 as usize].as_slice(), code)
+        match self.callee(target, code) {
+            Some(callee) => Some(callee.definition),
+            None => None,
+        }
     }
 
     /// A block of a target.

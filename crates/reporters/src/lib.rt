@@ -14,3 +14,6 @@ mod sight;
 
 pub use reporting::reported;
 pub use sight::{Sight, contents, variable};
+
+#[cfg(test)]
+mod tests;

@@ -1,0 +1,10 @@
+mod Begins
+mod Walks
+mod Outcomes
+mod Turns
+mod Entering
+mod Fitted
+mod Blocks
+mod Rounds
+mod Edging
+pub mod Headed

@@ -1,0 +1,5 @@
+pub mod Heads
+pub mod Fitting
+pub mod Started
+pub mod Rounds
+pub mod Edges

@@ -1,0 +1,200 @@
+//! Hats of a stage and two sprites, started in turn.
+
+ghost use Rattle.std.specs.Prelude.{◌<◌, ◌^◌};
+
+use crate::{EdgeHat, edges, start};
+use project_check::{Project, load};
+use project_json::Text;
+use script_machine::{BlockId, Filter, InstanceId, Serial, TargetId, Which};
+use script_words::{CounterKind, Stop};
+use std::alloc::{AllocError, Global};
+use std::process::Abort;
+use std::test::Fail;
+use targets::Targets;
+use thread_frames::Threads;
+
+mod rows;
+
+use rows::{Hats, ONCE, PROJECT, TWICE};
+
+// The filter of a row.
+fn filter_of(alloc: Global, hats: Hats) -> Result<Filter, AllocError> {
+    Ok(match hats {
+        Hats::Message(name) => Filter::Broadcast(Text::from_str(alloc, name)?),
+        Hats::Backdrop(name) => Filter::Backdrop(Text::from_str(alloc, name)?),
+        Hats::Key(name) => Filter::Key(Text::from_str(alloc, name)?),
+        Hats::Flag => Filter::Flag,
+        Hats::CloneStart(number) => Filter::CloneStart(InstanceId(number)),
+        Hats::Clicked(number) => Filter::Clicked(InstanceId(number)),
+    })
+}
+
+// The threads in order, each as its number, its instance and its hat.
+fn shown(alloc: Global, threads: &Threads) -> Result<String, AllocError> {
+    let mut text = String::new(alloc);
+    for slot in 0..threads.len() {
+        match threads.thread(Which::Slot(slot)) {
+            Some(thread) => {
+                let serial = thread.serial().0;
+                let of = thread.of().0;
+                let hat = thread.hat().0;
+                let part = format!(in alloc; " {serial}:{of}/{hat}")?;
+                text.push_str(part.as_str())?;
+            }
+            None => {}
+        }
+    }
+    Ok(text)
+}
+
+// The project of all rows.
+fn project(rt: &(impl Abort + AllocGlobal)) -> Project {
+    match load(rt.alloc(), PROJECT.as_bytes()) {
+        Ok(project) => project,
+        Err(_) => panic!(rt; "refused"),
+    }
+}
+
+// Starts hats, for which there is memory and room.
+fn started(
+    alloc: Global,
+    project: &Project,
+    threads: &mut Threads,
+    next: &mut u64,
+    running: Option<u64>,
+    hats: Hats,
+) -> Result<usize, AllocError>
+    requires { next.old < 2 ^ 62 }
+    ensures { next.new < 2 ^ 62 }
+{
+    let targets = Targets::open(alloc, project.records())?;
+    let filter = filter_of(alloc, hats)?;
+    match start(alloc, project, &targets, threads, next, running, &filter) {
+        Ok(serials) => Ok(serials.len()),
+        Err(_) => Err(AllocError),
+    }
+}
+
+#[test]
+fn rows_of_hats_without_threads(rt: HostRuntime) -> Result<(), Fail> {
+    let alloc = rt.alloc();
+    let project = project(&rt);
+    for (hats, want) in &ONCE {
+        let mut threads = Threads::new(alloc)?;
+        let mut next = 7;
+        let count = started(alloc, &project, &mut threads, &mut next, None, *hats)?;
+        assert_eq!(rt; shown(alloc, &threads)?.as_str(), *want);
+        assert_eq!(rt; next, 7 + count as u64);
+    }
+    Ok(())
+}
+
+#[test]
+fn rows_of_hats_beside_threads(rt: HostRuntime) -> Result<(), Fail> {
+    let alloc = rt.alloc();
+    let project = project(&rt);
+    for (first, then, want) in &TWICE {
+        let mut threads = Threads::new(alloc)?;
+        let mut next = 7;
+        started(alloc, &project, &mut threads, &mut next, None, *first)?;
+        started(alloc, &project, &mut threads, &mut next, None, *then)?;
+        assert_eq!(rt; shown(alloc, &threads)?.as_str(), *want);
+    }
+    Ok(())
+}
+
+#[test]
+fn a_thread_that_is_done_does_not_keep_its_hat(rt: HostRuntime) -> Result<(), Fail> {
+    let alloc = rt.alloc();
+    let project = project(&rt);
+    let mut threads = Threads::new(alloc)?;
+    let mut next = 7;
+    let key = Hats::Key("space");
+    started(alloc, &project, &mut threads, &mut next, None, key)?;
+    threads.finish(Which::Slot(0));
+    started(alloc, &project, &mut threads, &mut next, None, key)?;
+    assert_eq!(rt; shown(alloc, &threads)?.as_str(), " 7:1/4 8:1/4");
+    Ok(())
+}
+
+#[test]
+fn the_running_thread_is_detached(rt: HostRuntime) -> Result<(), Fail> {
+    let alloc = rt.alloc();
+    let project = project(&rt);
+    let mut threads = Threads::new(alloc)?;
+    let mut next = 7;
+    started(alloc, &project, &mut threads, &mut next, None, Hats::Flag)?;
+    started(
+        alloc,
+        &project,
+        &mut threads,
+        &mut next,
+        Some(1),
+        Hats::Flag,
+    )?;
+    assert_eq!(rt; shown(alloc, &threads)?.as_str(), " 10:2/0 11:2/3 12:1/0");
+    assert!(rt;
+        threads
+            .thread(Which::Detached)
+            .is_some_and(|thread| thread.serial() == Serial(8))
+    );
+    assert_eq!(rt; threads.levels(), 4);
+    Ok(())
+}
+
+#[test]
+fn no_number_is_left(rt: HostRuntime) -> Result<(), Fail> {
+    let alloc = rt.alloc();
+    let project = project(&rt);
+    let targets = Targets::open(alloc, project.records())?;
+    let mut threads = Threads::new(alloc)?;
+    let mut next = (1u64 << 62) - 1;
+    match start(
+        alloc,
+        &project,
+        &targets,
+        &mut threads,
+        &mut next,
+        None,
+        &Filter::Flag,
+    ) {
+        Ok(_) => panic!(rt; "started"),
+        Err(stop) => assert!(rt;
+            stop == Stop::Counter {
+                which: CounterKind::Thread
+            }
+        ),
+    }
+    assert_eq!(rt; threads.len(), 0);
+    Ok(())
+}
+
+#[test]
+fn edge_hats_without_a_thread(rt: HostRuntime) -> Result<(), Fail> {
+    let alloc = rt.alloc();
+    let project = project(&rt);
+    let targets = Targets::open(alloc, project.records())?;
+    let mut threads = Threads::new(alloc)?;
+    let dog = EdgeHat {
+        of: InstanceId(2),
+        target: TargetId(2),
+        hat: BlockId(2),
+    };
+    let cat = EdgeHat {
+        of: InstanceId(1),
+        target: TargetId(1),
+        hat: BlockId(7),
+    };
+    let all = edges(alloc, &project, &targets, &threads)?;
+    assert_eq!(rt; all.as_slice(), [dog, cat].as_slice());
+    match threads.append(Serial(5), cat.of, cat.target, cat.hat, None) {
+        Ok(()) => {}
+        Err(_) => panic!(rt; "no room"),
+    }
+    let left = edges(alloc, &project, &targets, &threads)?;
+    assert_eq!(rt; left.as_slice(), [dog].as_slice());
+    threads.finish(Which::Slot(0));
+    let all = edges(alloc, &project, &targets, &threads)?;
+    assert_eq!(rt; all.len(), 2);
+    Ok(())
+}
