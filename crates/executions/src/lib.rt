@@ -2,6 +2,7 @@
 #![tactic(auto)]
 
 mod moving;
-mod run;
+mod rows;
+mod state;
 
-pub use run::Run;
+pub use state::State;
