@@ -1,0 +1,20 @@
+-- A row that leaves the instances and devices of a run as they are, and what a row keeps; private functions alone cite it.
+use Rattle.std.specs.Prelude.{◌≡◌, Bool, true, false}
+use Rattle.opcode_table.specs.declared.kinds.Kind.{Kind}
+use Rattle.script_machine.specs.declared.threads.Context.{Context}
+use Rattle.script_machine.specs.declared.threads.Context.TheVariants.{Fresh}
+use Rattle.script_machine.specs.declared.threads.Control.{Control}
+use Rattle.script_machine.specs.Keeping.{control_fits}
+use Rattle.script_machine.specs.Laws.{is_own}
+use Rattle.script_machine.specs.ControlRows.{only}
+use Rattle.script_machine.specs.Parts.{Scene}
+use Rattle.script_machine.specs.View.{Row}
+
+-- whatever the scene is, the row goes with this context and control, leaves the scene and requests no redraw
+abbrev pub IsOnly : (Scene → Row Scene) → Context → Control → Type 0
+IsOnly row c control = (s : Scene) → row s ≡ only c control s
+
+-- what is kept fits the control of a block of this kind; behind a control that acts on other threads nothing is kept
+pub record KeepsWell (k : Kind) (c : Context) (control : Control) : Type 0 where
+  pub fits : control_fits control k c ≡ true
+  pub others : is_own control ≡ false → c ≡ Fresh

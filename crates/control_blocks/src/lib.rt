@@ -1,0 +1,16 @@
+//! The blocks of control, events and procedures, and the commands of sensing (scratch-vm, blocks/scratch3_control.js,
+//! scratch3_event.js, scratch3_procedures.js, scratch3_sensing.js).
+#![tactic(auto)]
+
+mod applying;
+mod loops;
+mod messages;
+mod procedures;
+mod questions;
+mod stopping;
+mod waiting;
+
+pub use applying::apply;
+
+#[cfg(test)]
+mod tests;
