@@ -8,3 +8,6 @@ mod view;
 
 pub use evaluating::inputs;
 pub use view::View;
+
+#[cfg(test)]
+mod tests;

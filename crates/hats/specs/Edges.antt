@@ -11,6 +11,7 @@ use Rattle.script_machine.specs.Starting.{Pair, pairs, is_alive_of}
 use Rattle.script_machine.specs.Frame.{is_edge_hat}
 use Rattle.thread_frames.specs.Threads.{Thread, frames}
 
+-- the statement is an edge hat
 abbrev pub is_edge : Statement → Bool
 is_edge s = is_edge_hat (hat_kind (op_of s))
 
@@ -18,7 +19,7 @@ is_edge s = is_edge_hat (hat_kind (op_of s))
 abbrev pub edge_of : Pair → EdgeHat
 edge_of x = record { of = x.of; target = (place_of x.head.hat).target; hat = hat_block x.head }
 
--- those of which no listed thread is alive
+-- of some hats, those of which no listed thread is alive
 abbrev pub free : Places Thread → List Pair → List Pair
 free ts xs = filter (λ x. not (list_any (is_alive_of frames x) ts.list)) xs
 
@@ -26,5 +27,6 @@ free ts xs = filter (λ x. not (list_any (is_alive_of frames x) ts.list)) xs
 abbrev pub free_edges : Program → List Instance → Places Thread → List Pair
 free_edges p is ts = free ts (pairs p is_edge is)
 
+-- the same, as the code lists them
 abbrev pub among : Places Thread → List Pair → List EdgeHat
 among ts xs = map edge_of (free ts xs)

@@ -12,6 +12,7 @@ is_meant (CloneStart clone) i = i.number == clone
 is_meant (Clicked instance) i = i.number == instance
 is_meant _ i = true
 
+-- the filter is a click
 abbrev pub is_click : Filter → Bool
 is_click (Clicked instance) = true
 is_click _ = false

@@ -16,6 +16,7 @@ use Rattle.hats.specs.Fitting.{is_meant, in_round}
 
 -- The hats of an instance that pass a test
 
+-- the hat of a block, where it passes
 abbrev pub passing_by : Project → (Statement → Bool) → Instance → (id : ℕ) → Option Block → List Pair
 passing_by p test i id None = []
 passing_by p test i id (Some b) = if test (statement (sheet_at i.of p) id b) then record { of = i.number; head = head_of (sheet_at i.of p) id b } ∷ [] else []
@@ -26,9 +27,11 @@ passing_at p test i id = passing_by p test i id (slice_get (blocks_at i.of p) id
 
 -- The hats that a round starts
 
+-- the hats of a round
 abbrev pub passes : Round → Statement → Bool
 passes r s = in_round r.on_stage r.filter.now s
 
+-- the one at a block, where it passes
 abbrev pub hats_by : Round → Instance → (id : ℕ) → Option Block → List Pair
 hats_by r i id o = passing_by r.project.now (passes r) i id o
 
@@ -39,7 +42,7 @@ hats_at r i id = passing_at r.project.now (passes r) i id
 abbrev pub hats_in : Round → Instance → List Pair
 hats_in r i = pairs_of (program_of r.project.now) (passes r) i
 
--- it is spoken of, and its target is there
+-- the filter speaks of the instance, and its target is there
 abbrev pub has_hats : Round → Instance → Bool
 has_hats r i = is_meant r.filter.now i && nat_lt i.of (length (tables_of r.project.now))
 

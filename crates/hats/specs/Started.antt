@@ -16,6 +16,7 @@ crowd_of ts n = record { threads = ts; next = n.next; serials = n.serials }
 abbrev pub new_of : Hat → (serial : ℕ) → Thread
 new_of h serial = new_thread serial h.of h.target h.block h.first
 
+-- it takes the slot of the thread of a hat that restarts, where there is one
 abbrev pub entered : (running : Option ℕ) → Hat → (serial : ℕ) → Places Thread → Outcome (Places Thread)
 entered running h serial ts =
     if h.restarts then placed frames running (position (is_of h.of h.block) ts.list) (new_of h serial) ts

@@ -202,7 +202,8 @@ fn start_rounds(
 /// startHats). A hat with restart takes the slot of its thread; where that is the running thread, whose slot is `running`,
 /// the old thread becomes the detached one. A hat without restart is ignored beside a thread of it that is not done.
 /// `Counter` of threads exactly where no number is left, `Stack` exactly where 65,536 levels are open, each where it is
-/// met first; the only other error is want of memory. The threads fit the blocks of the project before and after.
+/// met first; the only other error is want of memory. Threads that fit the blocks of the project before do so after, also
+/// behind an error. `next` is the number of the next thread, below 2^62.
 pub fn start(
     alloc: Global,
     project: &Project,

@@ -2,7 +2,7 @@
 
 ghost use Rattle.std.specs.Prelude.{◌<◌, ◌^◌};
 
-use crate::{EdgeHat, edges, start};
+use crate::{EdgeList, edges, every_hat_is_a_head, start};
 use project_check::{Project, load};
 use project_json::Text;
 use script_machine::{BlockId, Filter, InstanceId, Serial, TargetId, Which};
@@ -84,7 +84,7 @@ fn rows_of_hats_without_threads(rt: HostRuntime) -> Result<(), Fail> {
         let mut next = 7;
         let count = started(alloc, &project, &mut threads, &mut next, None, *hats)?;
         assert_eq!(rt; shown(alloc, &threads)?.as_str(), *want);
-        assert_eq!(rt; next, 7 + count as u64);
+        assert_eq!(rt; next.wrapping_sub(7), count as u64);
     }
     Ok(())
 }
@@ -169,32 +169,40 @@ fn no_number_is_left(rt: HostRuntime) -> Result<(), Fail> {
     Ok(())
 }
 
+// Edge hats in order, each as its instance, its target and its block.
+fn listed(alloc: Global, edges: &EdgeList) -> Result<String, AllocError> {
+    let mut text = String::new(alloc);
+    for edge in edges {
+        let of = edge.of.0;
+        let target = edge.target.0;
+        let hat = edge.hat.0;
+        let part = format!(in alloc; " {of}:{target}/{hat}")?;
+        text.push_str(part.as_str())?;
+    }
+    Ok(text)
+}
+
 #[test]
 fn edge_hats_without_a_thread(rt: HostRuntime) -> Result<(), Fail> {
     let alloc = rt.alloc();
     let project = project(&rt);
     let targets = Targets::open(alloc, project.records())?;
     let mut threads = Threads::new(alloc)?;
-    let dog = EdgeHat {
-        of: InstanceId(2),
-        target: TargetId(2),
-        hat: BlockId(2),
-    };
-    let cat = EdgeHat {
-        of: InstanceId(1),
-        target: TargetId(1),
-        hat: BlockId(7),
-    };
     let all = edges(alloc, &project, &targets, &threads)?;
-    assert_eq!(rt; all.as_slice(), [dog, cat].as_slice());
-    match threads.append(Serial(5), cat.of, cat.target, cat.hat, None) {
+    assert_eq!(rt; listed(alloc, &all)?.as_str(), " 2:2/2 1:1/7");
+    match threads.append(Serial(5), InstanceId(1), TargetId(1), BlockId(7), None) {
         Ok(()) => {}
         Err(_) => panic!(rt; "no room"),
     }
     let left = edges(alloc, &project, &targets, &threads)?;
-    assert_eq!(rt; left.as_slice(), [dog].as_slice());
+    assert_eq!(rt; listed(alloc, &left)?.as_str(), " 2:2/2");
     threads.finish(Which::Slot(0));
-    let all = edges(alloc, &project, &targets, &threads)?;
-    assert_eq!(rt; all.len(), 2);
+    let again = edges(alloc, &project, &targets, &threads)?;
+    assert_eq!(rt; listed(alloc, &again)?.as_str(), " 2:2/2 1:1/7");
     Ok(())
+}
+
+#[test]
+fn every_hat_heads_a_script(_rt: HostRuntime) {
+    every_hat_is_a_head();
 }
