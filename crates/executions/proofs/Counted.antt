@@ -3,6 +3,7 @@ use Rattle.std.proofs.Common.{◌≡◌, ℕ, ◌+◌, Bool, true, false, List, 
 use Rattle.std.specs.Prelude.{slice_get, sum_by, option_map, IfSome, if◌then◌else◌}
 use Rattle.std.specs.List.{All}
 use Rattle.std.proofs.lemmas.List.Elements.{All-head, All-tail}
+use Rattle.std.proofs.lemmas.List.Sums.{sum_by-cons}
 use Rattle.script_machine.specs.Script.{Script, End, Then, Statement}
 use Rattle.script_machine.specs.Threads.{is_done}
 use Rattle.script_machine.specs.Pending.{Item, Again, Back, Branch, dos, markers}
@@ -59,7 +60,8 @@ module _ (p : Project) where
 
   sum_is : (xs : List Thread) → All (Fits (sheets p)) xs → sum_by depth (map (task (sheets p)) xs) ≡ sum_by (λ t. length t.levels) xs
   sum_is [] h = refl
-  sum_is (x ∷ xs) h = omega (arith, depth_is x (All-head (Fits (sheets p)) x xs h), sum_is xs (All-tail (Fits (sheets p)) x xs h))
+  sum_is (x ∷ xs) h =
+      omega (arith, sum_by-cons depth (task (sheets p) x) (map (task (sheets p)) xs), sum_by-cons (λ (t : Thread). length t.levels) x xs, depth_is x (All-head (Fits (sheets p)) x xs h), sum_is xs (All-tail (Fits (sheets p)) x xs h))
 
   some_is : (o : Option Thread) → IfSome o (Fits (sheets p)) → sum_some depth (option_map (task (sheets p)) o) ≡ sum_some (λ t. length t.levels) o
   some_is None h = refl

@@ -3,3 +3,7 @@ pub mod Lent
 pub mod Worlds
 pub mod Stops
 pub mod RowsOf
+pub mod Firsts
+pub mod Counted
+pub mod Taking
+pub mod Steps

@@ -50,8 +50,8 @@ module _ {R : Type 0} (stream : R → Stream) (p : Project) (b : CachedBlock) (a
       → RowGoes stream p b a here thread c old context (record old { variables = variables; words = words; redraw = old.redraw || redraw }) control
   data_goes g variables words control context redraw e d ts is = data_is g d ts is ∙ ap (λ o. then_do o (applied (with_data (with_tasks stream p old ts)) (with_tasks stream p old ts))) e
 
-  pub data_stops : group b.op ≡ Data → (T : Type 0) (stop : Stop) → StopIs {T = T} (Err stop) data_of → RowStops stream p b a here thread c old (Err stop)
-  data_stops g T stop h d ts is = stop-same Control Control stop _ _ (data_is g d ts is) (stop-then T Control stop data_of _ h)
+  pub data_stops : group b.op ≡ Data → (T U : Type 0) (stop : Stop) → StopIs {T = T} (Err stop) data_of → RowStops {T = U} stream p b a here thread c old (Err stop)
+  data_stops g T U stop h d ts is = stop-same U U stop _ _ (data_is g d ts is) (stop-then T U stop data_of _ h)
 
   -- the control row of the block
   abbrev control_of : Outcome (Row Scene)
@@ -67,5 +67,5 @@ module _ {R : Type 0} (stream : R → Stream) (p : Project) (b : CachedBlock) (a
       → RowGoes stream p b a here thread c old context (record old { targets = targets; devices = devices; redraw = old.redraw || redraw }) control
   control_goes g targets devices control context redraw e d ts is = control_is g d ts is ∙ ap (λ o. then_do o (applied (with_scene (with_tasks stream p old ts)) (with_tasks stream p old ts))) e
 
-  pub control_stops : group b.op ≡ ControlGroup → (T : Type 0) (stop : Stop) → StopIs {T = T} (Err stop) control_of → RowStops stream p b a here thread c old (Err stop)
-  control_stops g T stop h d ts is = stop-same Control Control stop _ _ (control_is g d ts is) (stop-then T Control stop control_of _ h)
+  pub control_stops : group b.op ≡ ControlGroup → (T U : Type 0) (stop : Stop) → StopIs {T = T} (Err stop) control_of → RowStops {T = U} stream p b a here thread c old (Err stop)
+  control_stops g T U stop h d ts is = stop-same U U stop _ _ (control_is g d ts is) (stop-then T U stop control_of _ h)

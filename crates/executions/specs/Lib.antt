@@ -3,3 +3,4 @@ pub mod Ready
 pub mod Built
 pub mod Moves
 pub mod Rows
+pub mod Nexts

@@ -1,5 +1,6 @@
 -- A thread that was moved; the contracts of private functions alone cite these.
-use Rattle.std.specs.Prelude.{◌≡◌, ℕ, Bool, false, List, [], ◌∷◌, ◌++◌, Some}
+use Rattle.std.specs.Prelude.{◌≡◌, ℕ, Bool, true, false, List, [], ◌∷◌, ◌++◌, Some}
+use Rattle.script_machine.specs.Outcome.{Outcome, Goes, with_room}
 use Rattle.script_machine.specs.Script.{Script, Then, Statement}
 use Rattle.script_machine.specs.Threads.{is_done}
 use Rattle.script_machine.specs.declared.threads.Report.{Report}
@@ -40,3 +41,8 @@ abbrev pub MovesOn : Project → Which → (target k : ℕ) → (Statement → L
 MovesOn p which target k at old new report =
     (s : Statement) (rest : Script) → script (sheets p target) (Some k) ≡ Then s rest
     → Moved p which old new (at s (dos rest ++ beneath (sheets p target) (without_top (levels_of (at_place which old)))) (warp_flag (levels_of (at_place which old)))) report
+
+-- whether there is room for one more level, where one is opened
+abbrev pub room_for : (opens : Bool) → ℕ → Outcome (Unit {0})
+room_for true n = with_room n tt
+room_for false n = Goes tt

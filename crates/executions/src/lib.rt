@@ -1,8 +1,11 @@
 //! One execution of a thread on the whole state of a run (scratch-vm, engine/execute.js and engine/sequencer.js).
 #![tactic(auto)]
 
+mod acting;
 mod moving;
+mod others;
 mod rows;
 mod state;
+mod stepping;
 
 pub use state::State;

@@ -4,12 +4,13 @@ ghost use Rattle.std.specs.Prelude.{◌≡◌, ◌≤◌, ◌<◌, ◌+◌, ◌�
 ghost use Rattle.opcode_table.specs.Kinds.{kind};
 ghost use Rattle.cached_blocks.specs.declared.block.CachedBlock.{CachedBlock};
 ghost use Rattle.cached_blocks.specs.Cached.{cached_blocks};
-ghost use Rattle.script_machine.specs.Keeping.{has_branches, may_wait, top_fits, under_fits};
+ghost use Rattle.script_machine.specs.Called.{called};
+ghost use Rattle.script_machine.specs.Keeping.{has_branches, is_calls, may_wait, top_fits, under_fits};
 ghost use Rattle.script_machine.specs.Outcome.{StopIs, with_room, most_levels};
 ghost use Rattle.script_machine.specs.Pending as machine;
 ghost use Rattle.script_machine.specs.Places.{on_place};
 ghost use Rattle.script_machine.specs.Starting.{open_levels};
-ghost use Rattle.script_machine.specs.Step.{position};
+ghost use Rattle.script_machine.specs.Step.{entered_some, position};
 ghost use Rattle.script_machine.specs.Tasks as tasks;
 ghost use Rattle.script_machine.specs.declared.threads.Control.TheVariants as control;
 ghost use Rattle.project_check.specs.Loaded.{program_of, sheet_at};
@@ -18,7 +19,8 @@ ghost use Rattle.thread_moves.specs.Standing.{is_ended};
 ghost use Rattle.executions.specs.Moves.{IsAtBlock, MovesOn, with_levels};
 
 use project_check::Project;
-use script_machine::{BlockId, Context, Report, Status, TargetId, Which};
+use scratch_values::Params;
+use script_machine::{BlockId, Boxed, Context, Report, Status, TargetId, Which};
 use script_words::Stop;
 use thread_frames::{Levels, Threads};
 
@@ -128,6 +130,35 @@ pub(crate) fn enter(
     }
     let mut levels = threads.take_levels(which);
     match thread_moves::enter(project, target, &mut levels, id, number, is_loop, context) {
+        Ok(report) => {
+            put_back(threads, which, levels, report);
+            Ok(report)
+        }
+        Err(_) => Err(Stop::NoMemory),
+    }
+}
+
+// Enters the procedure that the block of the top level calls.
+pub(crate) fn call(
+    project: &Project,
+    threads: &mut Threads,
+    which: Which,
+    target: TargetId,
+    id: BlockId,
+    params: Boxed<Params>,
+    late: bool,
+) -> Result<Report, Stop>
+    requires at { IsAtBlock project.now which threads.old target id }
+    requires calls { (b : CachedBlock) → slice_get (cached_blocks (sheet_at target project.now)) id ≡ Some b → is_calls (kind b.op) ≡ true }
+    ensures room { IfOk result (λ r. open_levels frames threads.old < most_levels) }
+    ensures at { IfOk result (MovesOn project.now which target id (λ s rest warp. entered_some (called (program_of project.now) s) late warp s rest params) threads.old threads.new) }
+    ensures stop { StopIs result (with_room (open_levels frames threads.old) threads.old) }
+{
+    if threads.levels() >= MOST_LEVELS {
+        return Err(Stop::Stack);
+    }
+    let mut levels = threads.take_levels(which);
+    match thread_moves::call(project, target, &mut levels, id, params, late) {
         Ok(report) => {
             put_back(threads, which, levels, report);
             Ok(report)

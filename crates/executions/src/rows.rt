@@ -1,18 +1,23 @@
 //! The rows of blocks on the parts of a run.
 
-ghost use Rattle.std.specs.Prelude.{◌≡◌, ◌||◌, ℕ, IfOk};
-ghost use Rattle.opcode_table.specs.Kinds.{group};
-ghost use Rattle.opcode_table.specs.declared.grouping.Group.TheVariants.{Data};
+ghost use Rattle.std.specs.Prelude.{◌≡◌, ◌||◌, ℕ, true, false, IfOk};
+ghost use Rattle.opcode_table.specs.Kinds.{kind, group};
+ghost use Rattle.opcode_table.specs.declared.grouping.Group.TheVariants as group_of;
 ghost use Rattle.script_machine.specs.declared.threads.Control.TheVariants.{Next};
+ghost use Rattle.script_machine.specs.Keeping.{control_fits};
+ghost use Rattle.script_machine.specs.Laws.{is_own};
 ghost use Rattle.script_machine.specs.declared.threads.Context.TheVariants.{Fresh};
+ghost use Rattle.executions.specs.Built.{is_built};
 ghost use Rattle.executions.specs.Rows.{RowGoes, RowStops};
 
 use crate::state::State;
 use cached_blocks::CachedBlock;
+use opcode_table::{Group, group};
 use project_check::Project;
 use scratch_values::Args;
-use script_machine::{Context, Control, InstanceId};
+use script_machine::{Context, Control, InstanceId, Serial};
 use script_words::{Rng, Stop};
+use std::alloc::Global;
 
 // Whether one of two holds.
 fn either(a: bool, b: bool) -> bool
@@ -29,13 +34,13 @@ impl<R: Rng + Drop> State<R> {
         block: &CachedBlock,
         args: &Args<'_>,
         here: InstanceId,
-        context: &mut Context,
-    ) -> Result<Control, Stop>
-        requires { group block.now.op ≡ Data }
-        ensures ok { IfOk result (λ control. (thread : ℕ) → RowGoes R.stream project.now block.now args.entry.now here thread context.old self.old context.new self.new control) }
-        ensures next { IfOk result (λ control. (control ≡ Next) × (context.new ≡ Fresh)) }
-        ensures threads { self.new.threads ≡ self.old.threads }
-        ensures stop { (thread : ℕ) → RowStops R.stream project.now block.now args.entry.now here thread context.old self.old result }
+        context: Context,
+    ) -> Result<(Control, Context), Stop>
+        requires { group block.now.op ≡ group_of.Data }
+        ensures ok { IfOk result (λ r. (thread : ℕ) → RowGoes R.stream project.now block.now args.entry.now here thread context self.old r.1 self.new r.0) }
+        ensures next { IfOk result (λ r. r ≡ (Next, Fresh)) }
+        ensures kept { IfOk result (λ r. (self.new.threads ≡ self.old.threads) × (self.new.next_thread ≡ self.old.next_thread)) }
+        ensures stop { (thread : ℕ) → RowStops R.stream project.now block.now args.entry.now here thread context self.old result }
     {
         match data_blocks::apply(
             block.op,
@@ -47,11 +52,77 @@ impl<R: Rng + Drop> State<R> {
             &mut self.words,
         ) {
             Ok((control, redraw)) => {
-                *context = Context::Fresh;
                 self.redraw = either(self.redraw, redraw);
-                Ok(control)
+                Ok((control, Context::Fresh))
             }
             Err(stop) => Err(stop),
+        }
+    }
+
+    // The row of a block of control.
+    fn apply_control(
+        &mut self,
+        alloc: Global,
+        project: &Project,
+        block: &CachedBlock,
+        args: &Args<'_>,
+        here: InstanceId,
+        thread: Serial,
+        context: Context,
+    ) -> Result<(Control, Context), Stop>
+        requires { group block.now.op ≡ group_of.Control }
+        ensures ok { IfOk result (λ r. RowGoes R.stream project.now block.now args.entry.now here thread context self.old r.1 self.new r.0) }
+        ensures fits { IfOk result (λ r. control_fits r.0 (kind block.now.op) r.1 ≡ true) }
+        ensures own { IfOk result (λ r. is_own r.0 ≡ false → r.1 ≡ Fresh) }
+        ensures kept { IfOk result (λ r. (self.new.threads ≡ self.old.threads) × (self.new.next_thread ≡ self.old.next_thread)) }
+        ensures stop { RowStops R.stream project.now block.now args.entry.now here thread context self.old result }
+    {
+        let mut kept = context;
+        match control_blocks::apply(
+            alloc,
+            block,
+            args,
+            here,
+            thread,
+            project,
+            &mut self.targets,
+            &mut self.devices,
+            &self.threads,
+            &mut kept,
+        ) {
+            Ok((control, redraw)) => {
+                self.redraw = either(self.redraw, redraw);
+                Ok((control, kept))
+            }
+            Err(stop) => Err(stop),
+        }
+    }
+
+    // The row of a block of an instance, by the crate of its group.
+    pub(crate) fn apply(
+        &mut self,
+        alloc: Global,
+        project: &Project,
+        block: &CachedBlock,
+        args: &Args<'_>,
+        here: InstanceId,
+        thread: Serial,
+        context: Context,
+    ) -> Result<(Control, Context), Stop>
+        requires { is_built block.now.op ≡ true }
+        ensures ok { IfOk result (λ r. RowGoes R.stream project.now block.now args.entry.now here thread context self.old r.1 self.new r.0) }
+        ensures fits { IfOk result (λ r. control_fits r.0 (kind block.now.op) r.1 ≡ true) }
+        ensures own { IfOk result (λ r. is_own r.0 ≡ false → r.1 ≡ Fresh) }
+        ensures kept { IfOk result (λ r. (self.new.threads ≡ self.old.threads) × (self.new.next_thread ≡ self.old.next_thread)) }
+        ensures stop { RowStops R.stream project.now block.now args.entry.now here thread context self.old result }
+    {
+        match group(block.op) {
+            Group::Motion => unreachable!(),
+            Group::Looks => unreachable!(),
+            Group::Data => self.apply_data(project, block, args, here, context),
+            Group::Control => {
+                self.apply_control(alloc, project, block, args, here, thread, context)
+            }
         }
     }
 }

@@ -1,0 +1,50 @@
+//! What a control does that acts on other threads or on instances.
+
+ghost use Rattle.std.specs.Prelude.{◌≡◌, ◌<◌, length, true, false, Some, IfOk, slice_get};
+ghost use Rattle.opcode_table.specs.Kinds.{kind};
+ghost use Rattle.cached_blocks.specs.declared.block.CachedBlock.{CachedBlock};
+ghost use Rattle.cached_blocks.specs.Cached.{cached_blocks};
+ghost use Rattle.script_machine.specs.declared.threads.Context.TheVariants.{Fresh};
+ghost use Rattle.script_machine.specs.Keeping.{control_fits};
+ghost use Rattle.script_machine.specs.Laws as laws;
+ghost use Rattle.script_machine.specs.Outcome.{Goes, StopIs};
+ghost use Rattle.script_machine.specs.Places.{at_place, place};
+ghost use Rattle.project_check.specs.Loaded.{tables_of, blocks_at, sheet_at};
+ghost use Rattle.executions.specs.Nexts.{next_of};
+ghost use Rattle.executions.specs.Ready.{IsReady, IsAfter};
+ghost use Rattle.executions.specs.Rows.{Acts};
+ghost use Rattle.executions.specs.Seen.{seen};
+
+use crate::state::State;
+use crate::stepping::Next;
+use project_check::Project;
+use script_machine::{Control, Report, Which};
+use script_words::{Rng, Stop};
+use std::alloc::Global;
+
+impl<R: Rng + Drop> State<R> {
+    // What a control does that is not of the running thread alone; the block of that thread keeps nothing.
+    pub(crate) fn act_on_others(
+        &mut self,
+        alloc: Global,
+        project: &Project,
+        slot: u64,
+        which: Which,
+        next: Next,
+        control: Control,
+        late: bool,
+    ) -> Result<Report, Stop>
+        requires ready { IsReady project.now slot self.old }
+        requires at { which ≡ place slot self.old.threads }
+        requires next { next_of (at_place which self.old.threads) ≡ Some next }
+        requires held { next.target < length (tables_of project.now) }
+        requires member { next.id < length (blocks_at next.target project.now) }
+        requires own { laws.is_own control ≡ false }
+        requires fits { (b : CachedBlock) → slice_get (cached_blocks (sheet_at next.target project.now)) next.id ≡ Some b → control_fits control (kind b.op) Fresh ≡ true }
+        ensures ok { IfOk result (λ report. Acts R.stream project.now slot next.id late control self.old (λ o. o ≡ Goes (record { world = seen R.stream project.now self.new; report = report }))) }
+        ensures after { IfOk result (λ report. IsAfter project.now slot report self.new) }
+        ensures stop { Acts R.stream project.now slot next.id late control self.old (StopIs result) }
+    {
+        Err(Stop::NoMemory)
+    }
+}
