@@ -7,3 +7,4 @@ pub mod Firsts
 pub mod Counted
 pub mod Taking
 pub mod Steps
+pub mod Enacting

@@ -14,9 +14,10 @@ ghost use Rattle.thread_frames.specs.Threads.{frames};
 ghost use Rattle.executions.specs.Moves.{IsAtBlock, MovesOn, room_for};
 
 use crate::moving::{call, enter, go_on, stay, stop_this_script};
+use crate::state::State;
 use project_check::Project;
 use script_machine::{BlockId, Context, Control, Report, TargetId, Which};
-use script_words::Stop;
+use script_words::{Rng, Stop};
 use thread_frames::Threads;
 
 // Whether a control is of its own thread alone.
@@ -40,7 +41,7 @@ pub(crate) fn is_own(control: &Control) -> bool
 }
 
 // Moves a thread as a control says that is of its own thread alone; its block keeps the context.
-pub(crate) fn act_own(
+fn act_own(
     project: &Project,
     threads: &mut Threads,
     which: Which,
@@ -96,5 +97,30 @@ pub(crate) fn act_own(
         Control::DeleteClone => unreachable!(),
         Control::Start { .. } => unreachable!(),
         Control::Clone { .. } => unreachable!(),
+    }
+}
+
+impl<R: Rng + Drop> State<R> {
+    // Moves the thread at a place as a control says that is of its own thread alone.
+    pub(crate) fn act_own(
+        &mut self,
+        project: &Project,
+        which: Which,
+        target: TargetId,
+        id: BlockId,
+        control: Control,
+        context: Context,
+        late: bool,
+    ) -> Result<Report, Stop>
+        requires at { IsAtBlock project.now which self.old.threads target id }
+        requires own { laws.is_own control ≡ true }
+        requires fits { (b : CachedBlock) → slice_get (cached_blocks (sheet_at target project.now)) id ≡ Some b → control_fits control (kind b.op) context ≡ true }
+        ensures at { IfOk result (MovesOn project.now which target id (λ s rest warp. position (program_of project.now) late warp s rest control context) self.old.threads self.new.threads) }
+        ensures room { IfOk result (λ report. opens_level control ≡ true → open_levels frames self.old.threads < most_levels) }
+        ensures others { self.new ≡ record self.old { threads = self.new.threads } }
+        ensures stop { StopIs result (room_for (opens_level control) (open_levels frames self.old.threads)) }
+    {
+        let threads = &mut self.threads;
+        act_own(project, threads, which, target, id, control, context, late)
     }
 }

@@ -11,7 +11,7 @@ ghost use Rattle.executions.specs.Rows.{Enacts};
 ghost use Rattle.executions.specs.Seen.{seen};
 ghost use Rattle.executions.specs.Nexts.{next_of};
 
-use crate::acting::{act_own, is_own};
+use crate::acting::is_own;
 use crate::state::State;
 use evaluate::{View, inputs};
 use project_check::Project;
@@ -81,8 +81,9 @@ impl<R: Rng + Drop> State<R> {
         match self.apply(alloc, project, block, args, next.here, next.serial, context) {
             Ok((control, context)) => {
                 if is_own(&control) {
-                    let threads = &mut self.threads;
-                    act_own(project, threads, which, next.target, next.id, control, context, late)
+                    self.act_own(
+                        project, which, next.target, next.id, control, context, late,
+                    )
                 } else {
                     self.act_on_others(alloc, project, slot, which, next, control, late)
                 }
