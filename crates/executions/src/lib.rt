@@ -3,6 +3,7 @@
 
 mod acting;
 mod moving;
+mod opening;
 mod others;
 mod rows;
 mod state;
