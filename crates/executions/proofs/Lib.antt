@@ -1,2 +1,5 @@
 pub mod Placing
 pub mod Lent
+pub mod Worlds
+pub mod Stops
+pub mod RowsOf

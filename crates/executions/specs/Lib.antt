@@ -1,3 +1,5 @@
 pub mod Seen
 pub mod Ready
+pub mod Built
 pub mod Moves
+pub mod Rows

@@ -10,7 +10,7 @@ use Rattle.thread_frames.specs.Reading.{task}
 use Rattle.thread_frames.specs.Threads.{Thread}
 use Rattle.project_check.specs.declared.project.Project.{Project}
 use Rattle.project_check.specs.Loaded.{sheet_at}
-use Rattle.executions.specs.declared.run.Run.{Run}
+use Rattle.executions.specs.declared.state.State.{State}
 
 -- the blocks of each target, and what they name
 abbrev pub sheets : Project → ℕ → Sheet
@@ -19,7 +19,7 @@ sheets p t = sheet_at t p
 abbrev pub seen_threads : Project → Places Thread → Places Task
 seen_threads p ts = shown_by (task (sheets p)) ts
 
-abbrev pub seen : {R : Type 0} → (R → Stream) → Project → Run R → World Task
+abbrev pub seen : {R : Type 0} → (R → Stream) → Project → State R → World Task
 seen stream p r = record {
   frame = r.frame;
   words = seen_words stream r.words;

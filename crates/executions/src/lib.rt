@@ -2,6 +2,7 @@
 #![tactic(auto)]
 
 mod moving;
-mod run;
+mod state;
+mod stepping;
 
-pub use run::Run;
+pub use state::State;

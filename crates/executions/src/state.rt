@@ -9,7 +9,7 @@ use variables::Variables;
 /// The state of a run: the number of its next frame, its random words, the numbers that the next thread and the next instance
 /// get, whether a redraw is requested, its instances, variables and devices, and its threads. It keeps no project.
 #[derive(Drop)]
-pub struct Run<R> {
+pub struct State<R> {
     pub frame: u64,
     pub words: Counted<R>,
     pub next_thread: u64,

@@ -1,0 +1,23 @@
+-- Which blocks are executed so far.
+use Rattle.std.specs.Prelude.{◌≡◌, ℕ, Bool, true, false, slice_get, Some}
+use Rattle.opcode_table.specs.declared.opcode.Opcode.{Opcode}
+use Rattle.opcode_table.specs.declared.grouping.Group.{Group}
+use Rattle.opcode_table.specs.declared.grouping.Group.TheVariants.{Motion, Looks, Data, Control}
+use Rattle.opcode_table.specs.Kinds.{group}
+use Rattle.cached_blocks.specs.declared.block.CachedBlock.{CachedBlock}
+use Rattle.cached_blocks.specs.Cached.{cached_blocks}
+use Rattle.project_check.specs.declared.project.Project.{Project}
+use Rattle.executions.specs.Seen.{sheets}
+
+abbrev pub is_built_group : Group → Bool
+is_built_group Motion = false
+is_built_group Looks = false
+is_built_group Data = true
+is_built_group Control = true
+
+abbrev pub is_built : Opcode → Bool
+is_built op = is_built_group (group op)
+
+-- all blocks of a project are built
+pub record IsBuilt (p : Project) : Type 0 where
+  pub each : (t k : ℕ) (c : CachedBlock) → slice_get (cached_blocks (sheets p t)) k ≡ Some c → is_built c.op ≡ true
