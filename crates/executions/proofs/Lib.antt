@@ -2,4 +2,3 @@ pub mod Placing
 pub mod Lent
 pub mod Worlds
 pub mod Stops
-pub mod RowsOf

@@ -20,7 +20,7 @@ use Rattle.thread_frames.specs.Fit.{Fits, LevelsFit, IsReadyAt, IsAtRest}
 use Rattle.thread_moves.specs.Standing.{IsAt, is_ended, IsReadyUnless as LevelsReadyUnless}
 use Rattle.executions.specs.declared.state.State.{State}
 use Rattle.executions.specs.Seen.{sheets, seen_threads, seen}
-use Rattle.executions.specs.Ready.{AllFit, IsReady, IsReadyUnless, IsAfter}
+use Rattle.executions.specs.Ready.{AllFit, IsKept, IsReady, IsReadyUnless, IsAfter}
 use Rattle.executions.specs.Moves.{with_levels}
 use Rattle.executions.proofs.Placing.{running_put, everyone_put, on_running_seen}
 
@@ -66,21 +66,29 @@ module _ (p : Project) (t : Thread) (x : Position) (levels : List Level) (report
     pub threads_moved : on_running (at_position x) i (seen_threads p old) ≡ seen_threads p new
     threads_moved = on_running_seen (task (sheets p)) (at_position x) i old t (with_levels levels report t) found stands ∙ ap (seen_threads p) (sym new_is)
 
-    all_fit : AllFit p old → AllFit p new
+    pub all_fit : AllFit p old → AllFit p new
     all_fit all = record { all = subst (Everyone (Fits (sheets p))) (sym new_is) (everyone_put (Fits (sheets p)) (place i old) old (with_levels levels report t) all.all fits) }
 
-    after_by : (b : Bool) → is_ended report ≡ b → LevelsReadyUnless b (sheets p t.target) levels → AllFit p new → IsReadyUnless b p i new
-    after_by true e h all = all
-    after_by false e h all = record {
+    pub still_running : running i new ≡ Some (with_levels levels report t)
+    still_running = ap (running i) new_is ∙ running_put i old t (with_levels levels report t) found
+
+  -- what is kept of the run afterwards
+  module _ {R : Type 0} (i : ℕ) (w : State R) (ts : Places Thread) (found : running i w.threads ≡ Some t) (new_is : ts ≡ put (place i w.threads) (with_levels levels report t) w.threads) (kept : IsKept p w) where
+    kept_is : IsKept p (record w { threads = ts })
+    kept_is = record { threads = all_fit i w.threads ts found new_is kept.threads; few = kept.few }
+
+    after_by : (b : Bool) → is_ended report ≡ b → LevelsReadyUnless b (sheets p t.target) levels → IsReadyUnless b p i (record w { threads = ts })
+    after_by true e h = kept_is
+    after_by false e h = record {
       thread = with_levels levels report t;
-      found = ap (running i) new_is ∙ running_put i old t (with_levels levels report t) found;
+      found = still_running i w.threads ts found new_is;
       alive = ended_done report ∙ e;
       ready = h;
-      all = all;
+      kept = kept_is;
     }
 
-    pub after : AllFit p old → IsAfter p i report new
-    after all = after_by (is_ended report) refl at.ready (all_fit all)
+    pub after : IsAfter p i report (record w { threads = ts })
+    after = after_by (is_ended report) refl at.ready
 
 -- the running thread stands there now, and all else is as it was
 pub moved_is : {R : Type 0} (stream : R → Stream) (p : Project) (i : ℕ) (w : State R) (ts : Places Thread) (t : Thread) (x : Position) (levels : List Level) (report : Report)

@@ -28,9 +28,9 @@ impl<R: Rng + Drop> State<R> {
         late: bool,
     ) -> Result<Report, Stop>
         requires built { IsBuilt project.now }
-        requires ready { IsReady project.now slot self.old.threads }
+        requires ready { IsReady project.now slot self.old }
         ensures ok { IfOk result (λ report. machine.step (program_of project.now) slot late (seen R.stream project.now self.old) ≡ Goes (record { world = seen R.stream project.now self.new; report = report })) }
-        ensures after { IfOk result (λ report. IsAfter project.now slot report self.new.threads) }
+        ensures after { IfOk result (λ report. IsAfter project.now slot report self.new) }
         ensures stop { StopIs result (machine.step (program_of project.now) slot late (seen R.stream project.now self.old)) }
     {
         Err(Stop::NoMemory)
