@@ -1,0 +1,7 @@
+//! What the sequencer does with executions: slices, passes over the thread list, and the passes of a frame (scratch-vm,
+//! engine/sequencer.js).
+#![tactic(auto)]
+
+mod slicing;
+
+pub use slicing::slice;
