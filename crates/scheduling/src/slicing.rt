@@ -1,19 +1,20 @@
 //! Slices of executions.
 
-ghost use Rattle.std.specs.Prelude.{◌≡◌, ◌≤◌, ◌<◌, ◌+◌, ◌^◌, IfOk};
+ghost use Rattle.std.specs.Prelude.{◌≡◌, ◌≤◌, ◌<◌, ◌+◌, ◌^◌, IfOk, is_some};
 ghost use Rattle.script_machine.specs.Outcome.{Goes, StopIs};
-ghost use Rattle.script_machine.specs.Places.{running};
+ghost use Rattle.script_machine.specs.Places.{running, at_place};
 ghost use Rattle.script_machine.specs.Slice as machine;
-ghost use Rattle.thread_frames.specs.Levels.{warp_flag};
+ghost use Rattle.thread_frames.specs.Levels.{warp_flag, top_block};
 ghost use Rattle.thread_frames.specs.Threads.{levels_of};
 ghost use Rattle.project_check.specs.Loaded.{program_of};
 ghost use Rattle.executions.specs.Built.{IsBuilt};
 ghost use Rattle.executions.specs.Ready.{IsKept, IsReady};
 ghost use Rattle.executions.specs.Seen.{seen};
+ghost use Rattle.scheduling.specs.Resting.{CanTurn};
 
 use executions::State;
 use project_check::Project;
-use script_machine::Report;
+use script_machine::{Report, Which};
 use script_words::{Rng, Stop};
 use std::alloc::Global;
 use thread_frames::Threads;
@@ -92,4 +93,37 @@ pub fn slice<R: Rng + Drop>(
         }
     }
     Ok(())
+}
+
+// Whether the top level of a thread holds a block.
+fn has_block(threads: &Threads, which: Which) -> bool
+    ensures { result ≡ is_some (top_block (levels_of (at_place which threads.now))) }
+{
+    match threads.level(which, 0) {
+        Some(level) => level.block.is_some(),
+        None => false,
+    }
+}
+
+// The turn of the running thread: a slice; with nothing to do it is done, with no execution.
+pub(crate) fn turn<R: Rng + Drop>(
+    state: &mut State<R>,
+    alloc: Global,
+    project: &Project,
+    slot: u64,
+    warp: u32,
+) -> Result<(), Stop>
+    requires built { IsBuilt project.now }
+    requires alive { CanTurn project.now slot state.old }
+    ensures ok { IfOk result (λ _. machine.turn (program_of project.now) warp slot (seen R.stream project.now state.old) ≡ Goes (seen R.stream project.now state.new)) }
+    ensures stop { StopIs result (machine.turn (program_of project.now) warp slot (seen R.stream project.now state.old)) }
+    ensures kept { IfOk result (λ _. IsKept project.now state.new) }
+{
+    let which = state.threads.place(slot);
+    if has_block(&state.threads, which) {
+        slice(state, alloc, project, slot, warp)
+    } else {
+        state.threads.finish(which);
+        Ok(())
+    }
 }
