@@ -1,2 +1,4 @@
 pub mod Slices
 pub mod Turns
+pub mod Visits
+pub mod Passes

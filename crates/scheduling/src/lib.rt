@@ -2,6 +2,8 @@
 //! engine/sequencer.js).
 #![tactic(auto)]
 
+mod passing;
 mod slicing;
 
+pub use passing::pass;
 pub use slicing::slice;
