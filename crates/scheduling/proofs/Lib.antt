@@ -1,4 +1,5 @@
 pub mod Slices
 pub mod Turns
 pub mod Visits
-pub mod Passes
+pub mod OnePass
+pub mod FramePasses

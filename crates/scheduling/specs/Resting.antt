@@ -1,8 +1,9 @@
 -- What a run keeps between passes, and which threads get a turn.
-use Rattle.std.specs.Prelude.{◌≡◌, ℕ, Bool, false, Option, Some, None, slice_get}
+use Rattle.std.specs.Prelude.{◌≡◌, ℕ, Bool, false, not, ◌&&◌, ◌||◌, Option, Some, None, slice_get}
 use Rattle.script_machine.specs.Threads.{is_done, is_running}
 use Rattle.script_machine.specs.Places.{Places, running}
 use Rattle.script_machine.specs.Slice as machine
+use Rattle.script_machine.specs.Frame.{is_empty}
 use Rattle.thread_frames.specs.Threads.{Thread}
 use Rattle.project_check.specs.declared.project.Project.{Project}
 use Rattle.executions.specs.declared.state.State.{State}
@@ -35,3 +36,6 @@ is_active (Some t) = is_running t.status
 abbrev pub gets_slice : (first : Bool) → Option Thread → Bool
 gets_slice first None = false
 gets_slice first (Some t) = machine.gets_slice first t.status
+
+abbrev pub passes_go_on : {R : Type 0} → (active : Bool) → State R → Bool
+passes_go_on active s = not (is_empty s.threads.list) && active && (s.devices.turbo || not s.redraw)

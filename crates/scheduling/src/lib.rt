@@ -2,8 +2,10 @@
 //! engine/sequencer.js).
 #![tactic(auto)]
 
+mod frames;
 mod passing;
 mod slicing;
 
+pub use frames::passes;
 pub use passing::pass;
 pub use slicing::slice;

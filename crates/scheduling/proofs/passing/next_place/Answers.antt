@@ -1,7 +1,7 @@
 -- Each place is the next one, or leaves the next one behind it.
 use Rattle.std.proofs.Common.{sym, ◌∙◌, arith}
 use Rattle.executions.specs.Seen.{sheets}
-use Rattle.scheduling.proofs.Passes.{gets_alive, next_here, next_later, next_over}
+use Rattle.scheduling.proofs.OnePass.{gets_alive, next_here, next_later, next_over}
 use Rattle.scheduling.proofs.passing.next_place.Goals as goal
 
 pub returns-then-gets_slice-clause-next : goal.returns-then-gets_slice-clause-next

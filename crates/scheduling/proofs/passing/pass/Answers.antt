@@ -3,7 +3,7 @@ use Rattle.std.proofs.Common.{Bool, arith}
 use Rattle.script_machine.specs.Slice.{most_slices}
 use Rattle.project_check.specs.Loaded.{program_of}
 use Rattle.executions.specs.Seen.{seen}
-use Rattle.scheduling.proofs.Passes.{pass-over, pass-off, pass-on, pass-stop}
+use Rattle.scheduling.proofs.OnePass.{pass-over, pass-off, pass-on, pass-stop}
 use Rattle.scheduling.proofs.passing.pass.Goals as goal
 
 pub returns-in-Err-clause-stop : goal.returns-in-Err-clause-stop
