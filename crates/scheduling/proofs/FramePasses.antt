@@ -22,7 +22,8 @@ use Rattle.project_check.specs.declared.project.Project.{Project}
 use Rattle.executions.specs.declared.state.State.{State}
 use Rattle.executions.specs.Seen.{sheets, seen, seen_threads}
 use Rattle.executions.proofs.Stops.{stop-then, stop-same}
-use Rattle.scheduling.specs.Resting.{IsResting, passes_go_on}
+use Rattle.scheduling.specs.Resting.{IsResting}
+use Rattle.scheduling.specs.Turns.{passes_go_on}
 
 empty_map : {A B : Type 0} (f : A → B) (xs : List A) → is_empty (map f xs) ≡ is_empty xs
 empty_map f [] = refl

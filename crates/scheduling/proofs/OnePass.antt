@@ -16,7 +16,7 @@ use Rattle.project_file.specs.Trees.{Sheet}
 use Rattle.thread_frames.specs.Reading.{task}
 use Rattle.thread_frames.specs.Threads.{Thread}
 use Rattle.executions.proofs.Stops.{stop-then, stop-same}
-use Rattle.scheduling.specs.Resting.{IsAlive, gets_slice}
+use Rattle.scheduling.specs.Turns.{IsAlive, gets_slice}
 
 -- a thread that gets a slice is not done
 slice_lives : (first : Bool) (s : Status) → machine.gets_slice first s ≡ true → is_done s ≡ false

@@ -26,7 +26,7 @@ use Rattle.executions.specs.Ready.{IsKept, IsReady}
 use Rattle.executions.specs.Seen.{sheets, seen}
 use Rattle.executions.proofs.Placing.{on_is, everyone_at, running_seen}
 use Rattle.executions.proofs.Worlds.{moved_is, after}
-use Rattle.scheduling.specs.Resting.{CanTurn}
+use Rattle.scheduling.specs.Turns.{CanTurn}
 
 none_of : (o : Option ℕ) → false ≡ is_some o → o ≡ None
 none_of None e = refl

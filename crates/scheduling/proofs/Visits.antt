@@ -23,7 +23,8 @@ use Rattle.executions.specs.Ready.{AllFit, IsKept}
 use Rattle.executions.specs.Seen.{sheets, seen, seen_threads}
 use Rattle.executions.proofs.Placing.{put_at, put_seen, at_seen, on_is, everyone_at, everyone_put, running_seen}
 use Rattle.executions.proofs.Stops.{stop-then, stop-same}
-use Rattle.scheduling.specs.Resting.{IsResting, IsAlive, CanTurn, is_active}
+use Rattle.scheduling.specs.Resting.{IsResting}
+use Rattle.scheduling.specs.Turns.{IsAlive, CanTurn, is_active}
 
 -- a change of a thread is seen
 on_some_seen : {A B : Type 0} (f : A → B) (g : B → B) (h : A → A) → ((t : A) → g (f t) ≡ f (h t)) → (which : Which) (ts : Places A) (o : Option A) → put_some (option_map f o) g which (shown_by f ts) ≡ shown_by f (put_some o h which ts)

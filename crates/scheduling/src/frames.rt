@@ -6,7 +6,8 @@ ghost use Rattle.script_machine.specs.Outcome.{Goes, StopIs};
 ghost use Rattle.project_check.specs.Loaded.{program_of};
 ghost use Rattle.executions.specs.Built.{IsBuilt};
 ghost use Rattle.executions.specs.Seen.{seen};
-ghost use Rattle.scheduling.specs.Resting.{IsResting, passes_go_on};
+ghost use Rattle.scheduling.specs.Resting.{IsResting};
+ghost use Rattle.scheduling.specs.Turns.{passes_go_on};
 
 use crate::passing::pass;
 use executions::State;

@@ -8,8 +8,9 @@ ghost use Rattle.project_check.specs.declared.project.Project.{Project};
 ghost use Rattle.project_check.specs.Loaded.{program_of};
 ghost use Rattle.executions.specs.Built.{IsBuilt};
 ghost use Rattle.executions.specs.Seen.{seen, seen_threads};
-ghost use Rattle.scheduling.specs.Resting as resting;
-ghost use Rattle.scheduling.specs.Resting.{IsResting, IsAlive};
+ghost use Rattle.scheduling.specs.Resting.{IsResting};
+ghost use Rattle.scheduling.specs.Turns as turns;
+ghost use Rattle.scheduling.specs.Turns.{IsAlive};
 
 use crate::slicing::turn;
 use executions::State;
@@ -31,7 +32,7 @@ fn either(a: bool, b: bool) -> bool
 
 // Whether the running thread is active.
 fn is_active(threads: &Threads, slot: u64) -> bool
-    ensures { result ≡ resting.is_active (running slot threads.now) }
+    ensures { result ≡ turns.is_active (running slot threads.now) }
 {
     match threads.thread(threads.place(slot)) {
         Some(thread) => matches!(thread.status(), Status::Running),
@@ -41,7 +42,7 @@ fn is_active(threads: &Threads, slot: u64) -> bool
 
 // Whether the thread of a slot gets a slice; one that ticks does in the first pass of a frame.
 fn gets_slice(threads: &Threads, first: bool, slot: u64) -> bool
-    ensures { result ≡ resting.gets_slice first (slice_get threads.now.list slot) }
+    ensures { result ≡ turns.gets_slice first (slice_get threads.now.list slot) }
 {
     match threads.thread(Which::Slot(slot)) {
         Some(thread) => match thread.status() {

@@ -10,7 +10,7 @@ ghost use Rattle.project_check.specs.Loaded.{program_of};
 ghost use Rattle.executions.specs.Built.{IsBuilt};
 ghost use Rattle.executions.specs.Ready.{IsKept, IsReady};
 ghost use Rattle.executions.specs.Seen.{seen};
-ghost use Rattle.scheduling.specs.Resting.{CanTurn};
+ghost use Rattle.scheduling.specs.Turns.{CanTurn};
 
 use executions::State;
 use project_check::Project;
