@@ -8,3 +8,4 @@ pub mod Counted
 pub mod Taking
 pub mod Steps
 pub mod Enacting
+pub mod Building

@@ -2,6 +2,7 @@
 #![tactic(auto)]
 
 mod acting;
+mod built;
 mod moving;
 mod opening;
 mod others;
@@ -9,4 +10,5 @@ mod rows;
 mod state;
 mod stepping;
 
+pub use built::is_built;
 pub use state::State;
