@@ -7,3 +7,8 @@ pub mod Firsts
 pub mod Counted
 pub mod Taking
 pub mod Steps
+pub mod Natural
+pub mod Kept
+pub mod Ranks
+pub mod Sights
+pub mod Beside

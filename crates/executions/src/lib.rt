@@ -5,7 +5,9 @@ mod acting;
 mod moving;
 mod others;
 mod rows;
+mod starting;
 mod state;
 mod stepping;
+mod stopping;
 
 pub use state::State;
