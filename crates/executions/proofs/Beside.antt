@@ -1,6 +1,6 @@
 -- The running thread goes on where others are started or ended beside it.
-use Rattle.std.proofs.Common.{◌≡◌, ℕ, ◌+◌, ◌<◌, ◌^◌, Bool, true, false, not, List, [], ◌∷◌, ◌++◌, length, Option, Some, None, Err, refl, sym, ap, ◌∙◌, subst, arith}
-use Rattle.std.specs.Prelude.{slice_get, filter, ◌==◌, ◌&&◌, All}
+use Rattle.std.proofs.Common.{◌≡◌, ℕ, ◌+◌, ◌<◌, ◌^◌, Bool, true, false, not, List, [], ◌∷◌, ◌++◌, length, Option, Some, None, Result, Ok, Err, refl, sym, ap, ◌∙◌, subst, arith}
+use Rattle.std.specs.Prelude.{IfOk, slice_get, filter, ◌==◌, ◌&&◌, All}
 use Rattle.std.specs.Option.{option_map}
 use Rattle.std.proofs.lemmas.Option.{same_Some}
 use Rattle.rand_core.specs.Stream.{Stream}
@@ -323,6 +323,16 @@ module _ {R : Type 0} (stream : R → Stream) (p : Project) (i : ℕ) (w : State
 
       pub original_after : n.target < length (tables_of p) → IsAfter p i report (record w { threads = ts })
       original_after there = still_after w ready.found which at (λ s rest warp. settle rest warp) ts report m there ready.kept
+
+-- A control of which it is known what it is
+
+module _ {R : Type 0} (stream : R → Stream) (p : Project) (i k : ℕ) (c d : Control) (w : State R) (late : Bool) (is : c ≡ d) where
+  pub acts_so : (v : State R) (result : Result Report Stop) → IfOk result (λ report. (l : Bool) → Acts stream p i k l d w (λ o. o ≡ Goes (record { world = seen stream p v; report = report }))) → IfOk result (λ report. Acts stream p i k late c w (λ o. o ≡ Goes (record { world = seen stream p v; report = report })))
+  acts_so v (Ok report) h = subst (λ x. Acts stream p i k late x w (λ o. o ≡ Goes (record { world = seen stream p v; report = report }))) (sym is) (h late)
+  acts_so v (Err stop) h = tt
+
+  pub stops_so : (result : Result Report Stop) → ((l : Bool) → Acts stream p i k l d w (StopIs result)) → Acts stream p i k late c w (StopIs result)
+  stops_so result h = subst (λ x. Acts stream p i k late x w (StopIs result)) (sym is) (h late)
 
 -- The block that started hats
 
