@@ -55,7 +55,7 @@ module _ (p : Project) where
   depth_by t true e h = sym (ap length (h.done e))
   depth_by t false e h = depth_open (sheets p t.target) t.levels (h.open_levels e)
 
-  depth_is : (t : Thread) → Fits (sheets p) t → depth (task (sheets p) t) ≡ length t.levels
+  pub depth_is : (t : Thread) → Fits (sheets p) t → depth (task (sheets p) t) ≡ length t.levels
   depth_is t h = depth_by t (is_done t.status) refl h
 
   sum_is : (xs : List Thread) → All (Fits (sheets p)) xs → sum_by depth (map (task (sheets p)) xs) ≡ sum_by (λ t. length t.levels) xs

@@ -9,3 +9,8 @@ pub mod Taking
 pub mod Steps
 pub mod Enacting
 pub mod Building
+pub mod Natural
+pub mod Kept
+pub mod Ranks
+pub mod Sights
+pub mod Beside

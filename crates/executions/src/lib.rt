@@ -7,8 +7,10 @@ mod moving;
 mod opening;
 mod others;
 mod rows;
+mod starting;
 mod state;
 mod stepping;
+mod stopping;
 
 pub use built::is_built;
 pub use state::State;

@@ -45,6 +45,24 @@ impl<R: Rng + Drop> State<R> {
         ensures after { IfOk result (λ report. IsAfter project.now slot report self.new) }
         ensures stop { Acts R.stream project.now slot next.id late control self.old (StopIs result) }
     {
-        Err(Stop::NoMemory)
+        match control {
+            Control::StopOthers => self.stop_others(alloc, project, slot, which, next),
+            Control::StopAll => {
+                self.stop_everything(project);
+                Ok(Report::Ended)
+            }
+            Control::DeleteClone => self.delete_clone(alloc, project, slot, which, next),
+            Control::Start { hats, wait } => {
+                self.start_hats(alloc, project, slot, next, hats.get(), wait)
+            }
+            Control::Clone { .. } => Err(Stop::NoMemory),
+            Control::Next => unreachable!(),
+            Control::Branch { .. } => unreachable!(),
+            Control::Yield => unreachable!(),
+            Control::YieldTick => unreachable!(),
+            Control::Promise => unreachable!(),
+            Control::Call { .. } => unreachable!(),
+            Control::StopThis => unreachable!(),
+        }
     }
 }
