@@ -3,3 +3,5 @@ pub mod Items
 pub mod Settles
 pub mod Unwinds
 pub mod Moves
+pub mod Recursion
+pub mod Calls

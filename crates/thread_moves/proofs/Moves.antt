@@ -40,16 +40,16 @@ module _ (sheet : Sheet) (old : List Level) (k : ℕ) (ranked : IsRanked sheet) 
   abbrev pub r : List Item
   r = dos (script sheet (target_of_link th.block.next)) ++ beneath sheet (without_top old)
 
-  r_is : r ≡ dos (script sheet (target_of_link th.block.next)) ++ beneath sheet th.under
+  pub r_is : r ≡ dos (script sheet (target_of_link th.block.next)) ++ beneath sheet th.under
   r_is = ap (λ o. dos (script sheet (target_of_link th.block.next)) ++ beneath sheet (without_top o)) th.is
 
-  warp_is : warp_flag old ≡ th.top.warp
+  pub warp_is : warp_flag old ≡ th.top.warp
   warp_is = ap warp_flag th.is
 
   no_params : is_calls (kind_of b) ≡ false → is_some th.top.params ≡ false
   no_params e = th.params ∙ top_called th.before th.top.is_loop (kind_of b) th.fits e
 
-  no_loop : has_branches (kind_of b) ≡ false → th.top.is_loop ≡ false
+  pub no_loop : has_branches (kind_of b) ≡ false → th.top.is_loop ≡ false
   no_loop e = top_loop th.before th.top.is_loop (kind_of b) th.fits e
 
   -- the statement and what follows it, however they are told

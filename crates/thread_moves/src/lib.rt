@@ -2,9 +2,11 @@
 //! (scratch-vm, engine/thread.js and engine/sequencer.js, stepToBranch, stepToProcedure).
 #![tactic(auto)]
 
+mod calling;
 mod linked;
 mod moving;
 mod settling;
 
+pub use calling::call;
 pub use moving::{enter, go_on, stay, stop_this_script};
 pub use settling::settle;

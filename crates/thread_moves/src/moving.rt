@@ -21,7 +21,7 @@ use std::alloc::AllocError;
 use thread_frames::Levels;
 
 // The warp flag of the top level; that of no levels is false.
-fn is_warp(levels: &Levels) -> bool
+pub(crate) fn is_warp(levels: &Levels) -> bool
     ensures { result ≡ warp_flag levels.now }
 {
     match levels.top() {
