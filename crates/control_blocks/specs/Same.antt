@@ -9,6 +9,7 @@ use Rattle.script_machine.specs.Laws.{is_own}
 use Rattle.script_machine.specs.ControlRows.{only}
 use Rattle.script_machine.specs.Parts.{Scene}
 use Rattle.script_machine.specs.View.{Row}
+use Rattle.control_blocks.specs.Afresh.{acts_on_others}
 
 -- whatever the scene is, the row goes with this context and control, leaves the scene and requests no redraw
 abbrev pub IsOnly : (Scene → Row Scene) → Context → Control → Type 0
@@ -18,3 +19,4 @@ IsOnly row c control = (s : Scene) → row s ≡ only c control s
 pub record KeepsWell (k : Kind) (c : Context) (control : Control) : Type 0 where
   pub fits : control_fits control k c ≡ true
   pub others : is_own control ≡ false → c ≡ Fresh
+  pub acts : is_own control ≡ false → acts_on_others k ≡ true

@@ -8,6 +8,8 @@ ghost use Rattle.script_machine.specs.declared.threads.Context.TheVariants.{Fres
 ghost use Rattle.script_machine.specs.declared.threads.Filter.TheVariants.{Broadcast};
 ghost use Rattle.script_machine.specs.View.{text_at};
 ghost use Rattle.thread_frames.specs.Threads.{listed};
+ghost use Rattle.script_machine.specs.Laws.{is_own};
+ghost use Rattle.control_blocks.specs.Afresh.{is_started};
 ghost use Rattle.control_blocks.specs.Same.{IsOnly, KeepsWell};
 
 use block_arguments::text;
@@ -51,6 +53,7 @@ pub(crate) fn broadcast_and_wait(
 ) -> Result<Control, AllocError>
     ensures row { IfOk result (λ r. IsOnly (broadcast_and_wait (listed threads.now) context.old (text_at (codes "BROADCAST_INPUT") args.entry.now)) context.new r) }
     ensures keeps { IfOk result (λ r. KeepsWell Starts context.new r) }
+    ensures afresh { IfOk result (λ r. is_own r ≡ false → is_started context.old ≡ false) }
 {
     match context {
         Context::Started(serials) => Ok(threads.wait_for(serials.get().as_slice())),

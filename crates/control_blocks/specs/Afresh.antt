@@ -1,0 +1,23 @@
+-- What a block can have kept that acts on other threads: nothing, where its thread could be at rest with it.
+use Rattle.std.specs.Prelude.{Bool, true, false}
+use Rattle.opcode_table.specs.declared.kinds.Kind.{Kind}
+use Rattle.opcode_table.specs.declared.kinds.Kind.TheVariants.{Starts, Plain}
+use Rattle.script_machine.specs.declared.threads.Context.{Context}
+use Rattle.script_machine.specs.declared.threads.Context.TheVariants.{Started}
+
+abbrev pub is_started : Context → Bool
+is_started (Started serials) = true
+is_started _ = false
+
+-- kinds whose blocks may act on other threads
+abbrev pub acts_on_others : Kind → Bool
+acts_on_others Starts = true
+acts_on_others Plain = true
+acts_on_others _ = false
+
+-- and what they had kept then
+abbrev pub was_afresh : Kind → Context → Bool
+was_afresh Starts (Started serials) = false
+was_afresh Starts _ = true
+was_afresh Plain _ = true
+was_afresh _ _ = false
