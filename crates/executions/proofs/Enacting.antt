@@ -1,5 +1,5 @@
 -- The block of the running thread: its row, and the control of its own thread.
-use Rattle.std.proofs.Common.{◌≡◌, ℕ, ◌<◌, ◌+◌, Bool, true, false, List, [], ◌∷◌, ◌++◌, length, Option, Some, None, Result, Ok, Err, refl, sym, ap, ◌∙◌, subst, arith}
+use Rattle.std.proofs.Common.{◌≡◌, ℕ, ◌<◌, Bool, true, List, [], ◌∷◌, ◌++◌, Option, Some, None, Result, Ok, Err, refl, sym, ap, ◌∙◌, subst, arith}
 use Rattle.std.specs.Prelude.{slice_get, unwrap_or, IfOk}
 use Rattle.rand_core.specs.Stream.{Stream}
 use Rattle.script_words.specs.declared.counting.Counted.{Counted}
@@ -8,39 +8,30 @@ use Rattle.scratch_values.specs.Named.{Arguments}
 use Rattle.script_machine.specs.Outcome.{Outcome, Goes, most_levels, StopIs}
 use Rattle.script_machine.specs.Script.{Script, Then, Statement, command_of}
 use Rattle.script_machine.specs.declared.threads.Context.{Context}
-use Rattle.script_machine.specs.declared.threads.Context.TheVariants.{Fresh, Repeat, Wait, Glide, Started, Asked, Spoken, Called}
+use Rattle.script_machine.specs.declared.threads.Context.TheVariants.{Fresh}
 use Rattle.script_machine.specs.declared.threads.Control.{Control}
 use Rattle.script_machine.specs.declared.threads.Report.{Report}
 use Rattle.script_machine.specs.declared.threads.Which.{Which}
-use Rattle.opcode_table.specs.declared.kinds.Kind.{Kind}
-use Rattle.opcode_table.specs.declared.kinds.Kind.TheVariants.{Counted as CountedKind, Calls, Waits, Glides, Starts, Asks, Speaks}
-use Rattle.opcode_table.specs.Kinds.{kind}
-use Rattle.control_blocks.specs.Afresh.{was_afresh}
-use Rattle.script_machine.specs.Keeping.{top_fits}
 use Rattle.script_machine.specs.Evaluate.{evaluated}
 use Rattle.script_machine.specs.Threads.{Params}
 use Rattle.script_machine.specs.View.{View}
 use Rattle.script_machine.specs.Words.{Drawn, seen_words}
 use Rattle.script_machine.specs.Laws.{is_own}
-use Rattle.script_machine.specs.Pending.{Item, Position, dos}
-use Rattle.script_machine.specs.Places.{Places, at_place, put, place, running, on_place}
+use Rattle.script_machine.specs.Pending.{Item, dos}
+use Rattle.script_machine.specs.Places.{Places, at_place, put, place, on_place}
 use Rattle.script_machine.specs.Starting.{open_levels}
-use Rattle.script_machine.specs.Step.{Moment, position, opens_level, row, act, step}
+use Rattle.script_machine.specs.Step.{Moment, position, opens_level, row, step}
 use Rattle.script_machine.specs.Tasks.{Task}
 use Rattle.script_machine.specs.World.{World}
 use Rattle.project_file.specs.Linked.{IsClosed, AreRanks}
-use Rattle.project_file.specs.declared.blocks.Block.{Block}
-use Rattle.project_file.specs.Trees.{Sheet, target_of_link, script, statement}
-use Rattle.project_file.proofs.Unrolling.{held_at}
+use Rattle.project_file.specs.Trees.{script}
 use Rattle.project_check.specs.declared.project.Project.{Project}
 use Rattle.project_check.specs.Loaded.{program_of, blocks_at, ranks_at}
 use Rattle.cached_blocks.specs.declared.block.CachedBlock.{CachedBlock}
 use Rattle.cached_blocks.specs.Cached.{cached_block, cached_blocks}
 use Rattle.thread_frames.specs.declared.level.Level.{Level}
 use Rattle.thread_frames.specs.Levels.{on_top, with_context, without_top, top_block, top_context, near_params, warp_flag}
-use Rattle.thread_frames.specs.Reading.{beneath, task}
-use Rattle.thread_frames.specs.Fit.{kind_of, top_at, IsHeld, IsReadyAt}
-use Rattle.thread_moves.proofs.Items.{block_at_is}
+use Rattle.thread_frames.specs.Reading.{beneath}
 use Rattle.thread_frames.specs.Threads.{Thread, frames, levels_of, on_levels}
 use Rattle.thread_frames.specs.Counting.{open_in}
 use Rattle.thread_frames.proofs.Counts.{open_in-put, length-on_top}
@@ -49,42 +40,14 @@ use Rattle.thread_moves.proofs.Moves.{cached_is}
 use Rattle.executions.specs.declared.state.State.{State}
 use Rattle.executions.specs.declared.stepping.Next.{Next}
 use Rattle.executions.specs.Seen.{sheets, seen_threads, seen}
-use Rattle.executions.specs.Ready.{AllFit, IsReady, IsAfter}
+use Rattle.executions.specs.Ready.{IsReady, IsAfter}
 use Rattle.executions.specs.Moves.{IsAtBlock, Moved, MovesOn, room_for}
 use Rattle.executions.specs.Nexts.{next_by, next_of}
-use Rattle.executions.specs.Rows.{with_tasks, RowGoes, RowStops, enacts, Enacts, Acts}
-use Rattle.executions.proofs.Placing.{put_at, put_self}
+use Rattle.executions.specs.Rows.{with_tasks, RowGoes, RowStops, enacts, Enacts}
+use Rattle.executions.proofs.Placing.{put_at}
 use Rattle.executions.proofs.Stops.{stop-then, stop-same}
-use Rattle.executions.proofs.Taking.{without, holds_by, found, mid_is, at_block, listing}
+use Rattle.executions.proofs.Taking.{without, found, mid_is, at_block, listing}
 use Rattle.executions.proofs.Steps as steps
-
--- a block that acts on others had kept nothing
-afresh_fits : (c : Context) (m : Bool) (k : Kind) → top_fits c m k ≡ true → was_afresh k c ≡ true → c ≡ Fresh
-afresh_fits Fresh m k h e = refl
-afresh_fits (Repeat x) true CountedKind h e = absurd (cc)
-afresh_fits (Wait x) false Waits h e = absurd (cc)
-afresh_fits (Glide x) false Glides h e = absurd (cc)
-afresh_fits (Started []) m k h e = absurd (no_list m k h)
-  where
-    no_list : (m : Bool) (k : Kind) → top_fits (Started []) m k ≡ true → ⊥
-    no_list true k h = cc h
-    no_list false k h = cc h
-afresh_fits (Started (x ∷ xs)) false Starts h e = absurd (cc)
-afresh_fits Asked false Asks h e = absurd (cc)
-afresh_fits Spoken false Speaks h e = absurd (cc)
-afresh_fits Called false Calls h e = absurd (cc)
-afresh_fits c m k h e = absurd (cc)
-
-fresh_by : (ls : List Level) (k : ℕ) (sheet : Sheet) → IsReadyAt sheet ls → top_block ls ≡ Some k → (kind_is : Kind) → ((o : Block) → slice_get sheet.blocks k ≡ Some o → kind_of o ≡ kind_is) → was_afresh kind_is (top_context ls) ≡ true → top_context ls ≡ Fresh
-fresh_by [] k sheet h e kind_is same afresh = refl
-fresh_by (l ∷ ls) k sheet h e kind_is same afresh =
-    let (o, at) = held_at sheet.blocks k (subst (IsHeld sheet) e h.fit.0.held) in
-    let fits : top_fits l.context l.is_loop (kind_of o) ≡ true = ap (λ x. top_at x l.context l.is_loop) (sym (block_at_is sheet l.block k o e at)) ∙ h.fit.0.fits in
-    afresh_fits l.context l.is_loop kind_is (ap (top_fits l.context l.is_loop) (sym (same o at)) ∙ fits) afresh
-
-same_levels : (ls : List Level) → top_context ls ≡ Fresh → on_top (with_context Fresh) ls ≡ ls
-same_levels [] e = refl
-same_levels (l ∷ ls) e = ap (λ c. record l { context = c } ∷ ls) (sym e)
 
 -- what a thread executes next is its top block
 pub record IsNext (t : Thread) (n : Next) : Type 0 where
@@ -224,46 +187,6 @@ module _ {R : Type 0} (stream : R → Stream) (p : Project) (i : ℕ) (which : W
 
         pub own_after : IsAfter p i report last
         own_after = subst (IsAfter p i report) (sym last_is) (steps.own_after stream p i n.id late w ready facts.holds ranked a new control new_context (row_here new control new_context goes) own which at mid (mid_is p i n.id w ready facts.holds which at mid taken) last.threads report moved_here few)
-
-    -- a control of others: the block had kept nothing, so that nothing was taken
-    module _ (new : State R) (control : Control) (new_context : Context) (goes : RowGoes stream p b a n.here n.serial context (record w { threads = mid }) new_context new control)
-        (afresh : was_afresh (kind b.op) context ≡ true) (fresh : new_context ≡ Fresh) (threads_are : new.threads ≡ mid) (few : new.next_thread ≡ w.next_thread) where
-      top_is_fresh : top_context ready.thread.levels ≡ Fresh
-      top_is_fresh = fresh_by ready.thread.levels n.id (sheets p ready.thread.target) ready.ready facts.holds (kind b.op) (λ o. kind_here o) (ap (was_afresh (kind b.op)) (sym kept_is) ∙ afresh)
-        where
-          kind_here : (o : Block) → slice_get (sheets p ready.thread.target).blocks n.id ≡ Some o → kind_of o ≡ kind b.op
-          kind_here o e =
-              let th = steps.th stream p i n.id late w ready facts.holds ranked in
-              let same : o ≡ th.block = cc (sym e ∙ th.found) in
-              ap kind_of same ∙ ap (λ x. kind x.op) (sym block_is)
-
-      thread_is : without ready.thread ≡ ready.thread
-      thread_is = ap (λ ls. record ready.thread { levels = ls }) (same_levels ready.thread.levels top_is_fresh)
-
-      pub threads_same : new.threads ≡ w.threads
-      threads_same = threads_are ∙ mid_is p i n.id w ready facts.holds which at mid taken ∙ ap (λ t. put which t w.threads) thread_is ∙ put_self which w.threads ready.thread (found p i n.id w ready facts.holds which at mid taken)
-
-      pub still_ready : IsReady p i new
-      still_ready = record {
-        thread = ready.thread;
-        found = ap (running i) threads_same ∙ ready.found;
-        alive = ready.alive;
-        ready = ready.ready;
-        kept = record { threads = subst (AllFit p) (sym threads_same) ready.kept.threads; few = omega (arith, ready.kept.few, few) };
-      }
-
-      pub still_next : next_of (at_place which new.threads) ≡ Some n
-      still_next = ap (λ ts. next_of (at_place which ts)) threads_same ∙ next
-
-      pub still_at : which ≡ place i new.threads
-      still_at = at ∙ ap (place i) (sym threads_same)
-
-      pub others_act : (P : Outcome (Moment (World Task)) → Type 0) → Acts stream p i n.id late control new P → Enacts stream p i n.id late a w P
-      others_act P acts =
-          told P
-          (subst P (sym (steps.row_acts stream p i n.id late w ready facts.holds ranked a new control new_context (row_here new control new_context goes)
-              ∙ (λ j. act (program_of p) i late (task (sheets p) ready.thread) s_ r_ control (fresh j) (seen stream p (record new { threads = sym threads_same j })))))
-          (acts ready.thread s_ (steps.rest stream p i n.id late w ready facts.holds ranked) (ap (running i) threads_same ∙ ready.found) (steps.script_is stream p i n.id late w ready facts.holds ranked)))
 
 -- answers that were returned as they were
 

@@ -1,9 +1,10 @@
 -- Which blocks are executed so far.
-use Rattle.std.specs.Prelude.{◌≡◌, ℕ, ◌<◌, Bool, true, false, slice_get, Some}
+use Rattle.std.specs.Prelude.{◌≡◌, ℕ, ◌<◌, ◌&&◌, Bool, true, false, slice_get, Some}
 use Rattle.opcode_table.specs.declared.opcode.Opcode.{Opcode}
 use Rattle.opcode_table.specs.declared.grouping.Group.{Group}
 use Rattle.opcode_table.specs.declared.grouping.Group.TheVariants.{Motion, Looks, Data, Control}
 use Rattle.opcode_table.specs.Kinds.{group}
+use Rattle.control_blocks.specs.Afresh.{acts_alone}
 use Rattle.cached_blocks.specs.declared.block.CachedBlock.{CachedBlock}
 use Rattle.cached_blocks.specs.Cached.{cached_blocks}
 use Rattle.project_check.specs.declared.project.Project.{Project}
@@ -15,8 +16,9 @@ is_built_group Looks = false
 is_built_group Data = true
 is_built_group Control = true
 
+-- a block whose row is executed so far, and which acts on its own thread alone
 abbrev pub is_built : Opcode → Bool
-is_built op = is_built_group (group op)
+is_built op = is_built_group (group op) && acts_alone op
 
 -- all blocks of a target are built
 abbrev pub IsBuiltIn : Project → (t : ℕ) → Type 0

@@ -5,11 +5,8 @@ use Rattle.scratch_values.specs.Named.{Arguments}
 use Rattle.script_words.specs.declared.stops.Stop.{Stop}
 use Rattle.script_machine.specs.Outcome.{Outcome, Goes, then_do, StopIs}
 use Rattle.script_machine.specs.Script.{Script, Then, Statement, Command, command_of}
-use Rattle.script_machine.specs.Threads.{Listed}
 use Rattle.script_machine.specs.declared.threads.Context.{Context}
-use Rattle.script_machine.specs.declared.threads.Context.TheVariants.{Fresh}
 use Rattle.script_machine.specs.declared.threads.Control.{Control}
-use Rattle.script_machine.specs.declared.threads.Report.{Report}
 use Rattle.script_machine.specs.Pending.{Item, dos}
 use Rattle.script_machine.specs.Places.{Places, running}
 use Rattle.script_machine.specs.Step.{Moment, Applied, row, act}
@@ -58,9 +55,3 @@ abbrev pub Enacts : {R : Type 0} → (R → Stream) → Project → (i k : ℕ) 
 Enacts stream p i k late a w P =
     (t : Thread) (s : Statement) (rest : Script) → running i w.threads ≡ Some t → script (sheets p t.target) (Some k) ≡ Then s rest
     → P (enacts stream p i late t s (dos rest ++ beneath (sheets p t.target) (without_top t.levels)) a w)
-
--- a fact of what a control does with the running thread, whose top level holds block k and keeps nothing, and with all others
-abbrev pub Acts : {R : Type 0} → (R → Stream) → Project → (i k : ℕ) → (late : Bool) → Control → State R → (Outcome (Moment (World Task)) → Type 0) → Type 0
-Acts stream p i k late control w P =
-    (t : Thread) (s : Statement) (rest : Script) → running i w.threads ≡ Some t → script (sheets p t.target) (Some k) ≡ Then s rest
-    → P (act (program_of p) i late (task (sheets p) t) s (dos rest ++ beneath (sheets p t.target) (without_top t.levels)) control Fresh (seen stream p w))

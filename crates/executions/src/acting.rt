@@ -20,26 +20,6 @@ use script_machine::{BlockId, Context, Control, Report, TargetId, Which};
 use script_words::{Rng, Stop};
 use thread_frames::Threads;
 
-// Whether a control is of its own thread alone.
-pub(crate) fn is_own(control: &Control) -> bool
-    ensures { result ≡ laws.is_own control.now }
-{
-    match control {
-        Control::Next => true,
-        Control::Branch { .. } => true,
-        Control::Yield => true,
-        Control::YieldTick => true,
-        Control::Promise => true,
-        Control::Call { .. } => true,
-        Control::StopThis => true,
-        Control::StopOthers => false,
-        Control::StopAll => false,
-        Control::DeleteClone => false,
-        Control::Start { .. } => false,
-        Control::Clone { .. } => false,
-    }
-}
-
 // Moves a thread as a control says that is of its own thread alone; its block keeps the context.
 fn act_own(
     project: &Project,
@@ -81,15 +61,7 @@ fn act_own(
             context,
             Report::Ticked,
         )),
-        Control::Promise => Ok(stay(
-            project,
-            threads,
-            which,
-            target,
-            id,
-            context,
-            Report::Waits,
-        )),
+        Control::Promise => Ok(stay(project, threads, which, target, id, context, Report::Waits)),
         Control::Call { params, .. } => call(project, threads, which, target, id, params, late),
         Control::StopThis => Ok(stop_this_script(project, threads, which, target, id)),
         Control::StopOthers => unreachable!(),

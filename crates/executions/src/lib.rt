@@ -5,7 +5,6 @@ mod acting;
 mod built;
 mod moving;
 mod opening;
-mod others;
 mod rows;
 mod state;
 mod stepping;

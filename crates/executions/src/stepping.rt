@@ -11,7 +11,6 @@ ghost use Rattle.executions.specs.Rows.{Enacts};
 ghost use Rattle.executions.specs.Seen.{seen};
 ghost use Rattle.executions.specs.Nexts.{next_of};
 
-use crate::acting::is_own;
 use crate::state::State;
 use evaluate::{View, inputs};
 use project_check::Project;
@@ -79,15 +78,15 @@ impl<R: Rng + Drop> State<R> {
         let block = project.cached(next.target, next.id);
         let context = self.threads.take_context(which);
         match self.apply(alloc, project, block, args, next.here, next.serial, context) {
-            Ok((control, context)) => {
-                if is_own(&control) {
-                    self.act_own(
-                        project, which, next.target, next.id, control, context, late,
-                    )
-                } else {
-                    self.act_on_others(alloc, project, slot, which, next, control, late)
-                }
-            }
+            Ok((control, context)) => self.act_own(
+                project,
+                which,
+                next.target,
+                next.id,
+                control,
+                context,
+                late,
+            ),
             Err(stop) => Err(stop),
         }
     }
