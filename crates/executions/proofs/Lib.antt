@@ -1,0 +1,11 @@
+pub mod Placing
+pub mod Lent
+pub mod Worlds
+pub mod Stops
+pub mod RowsOf
+pub mod Firsts
+pub mod Counted
+pub mod Taking
+pub mod Steps
+pub mod Enacting
+pub mod Building

@@ -1,0 +1,47 @@
+-- The row and its control are those of the machine.
+use Rattle.std.proofs.Common.{sym, subst}
+use Rattle.script_machine.specs.declared.threads.Context.{Context}
+use Rattle.script_machine.specs.declared.threads.Control.{Control}
+use Rattle.script_machine.specs.declared.threads.Report.{Report}
+use Rattle.opcode_table.specs.Kinds.{group}
+use Rattle.control_blocks.specs.Afresh.{acts_alone}
+use Rattle.thread_moves.proofs.Fits.{both}
+use Rattle.executions.specs.Built.{is_built_group}
+use Rattle.executions.specs.Moves.{IsAtBlock}
+use Rattle.executions.proofs.Enacting.{stands_at, row_stops, own_stops, own_goes, own_after, both_ok, one_ok, stops_as}
+use Rattle.executions.proofs.state.State.enact.Goals as goal
+
+pub act_own-requires-clause-at : goal.act_own-requires-clause-at
+act_own-requires-clause-at g c =
+    subst (λ ts. IsAtBlock c.args.project.now c.args.which ts c.args.next.target c.args.next.id) (sym c.in-Ok.ensures.kept.0)
+    (stands_at g.R.Rng.stream c.args.project.now c.args.slot c.args.which c.args.next c.args.late c.args.args.now c.args.self.now c.requires.ready c.requires.at c.requires.next c.rank-rank.ensures.ranks c.blocks-closed.ensures.closed c.take_context-context.new.self c.take_context-context.result c.take_context-context.ensures.context c.take_context-context.ensures.left c.cached-block.result.now c.cached-block.ensures)
+
+pub returns-in-Ok-clause-ok : goal.returns-in-Ok-clause-ok
+returns-in-Ok-clause-ok g c =
+    both_ok c.act_own.result _ _ _
+    (λ report moves room. own_goes g.R.Rng.stream c.args.project.now c.args.slot c.args.which c.args.next c.args.late c.args.args.now c.args.self.now c.requires.ready c.requires.at c.requires.next c.rank-rank.ensures.ranks c.blocks-closed.ensures.closed c.take_context-context.new.self c.take_context-context.result c.take_context-context.ensures.context c.take_context-context.ensures.left c.cached-block.result.now c.cached-block.ensures
+    c.apply.new.self c.in-Ok.control c.in-Ok.context c.in-Ok.ensures.ok c.in-Ok.ensures.own c.in-Ok.ensures.kept.0 c.in-Ok.ensures.kept.1 c.act_own.new.self report moves c.act_own.ensures.others room)
+    c.act_own.ensures.at c.act_own.ensures.room
+
+pub returns-in-Ok-clause-after : goal.returns-in-Ok-clause-after
+returns-in-Ok-clause-after g c =
+    one_ok c.act_own.result _ _
+    (λ report moves. own_after g.R.Rng.stream c.args.project.now c.args.slot c.args.which c.args.next c.args.late c.args.args.now c.args.self.now c.requires.ready c.requires.at c.requires.next c.rank-rank.ensures.ranks c.blocks-closed.ensures.closed c.take_context-context.new.self c.take_context-context.result c.take_context-context.ensures.context c.take_context-context.ensures.left c.cached-block.result.now c.cached-block.ensures
+    c.apply.new.self c.in-Ok.control c.in-Ok.context c.in-Ok.ensures.ok c.in-Ok.ensures.own c.in-Ok.ensures.kept.0 c.in-Ok.ensures.kept.1 c.act_own.new.self report moves c.act_own.ensures.others)
+    c.act_own.ensures.at
+
+pub returns-in-Ok-clause-stop : goal.returns-in-Ok-clause-stop
+returns-in-Ok-clause-stop g c =
+    stops_as g.R.Rng.stream c.args.project.now c.args.slot c.args.next.id c.args.late c.args.args.now c.args.self.now c.act_own.result _
+    (λ stop h. own_stops g.R.Rng.stream c.args.project.now c.args.slot c.args.which c.args.next c.args.late c.args.args.now c.args.self.now c.requires.ready c.requires.at c.requires.next c.rank-rank.ensures.ranks c.blocks-closed.ensures.closed c.take_context-context.new.self c.take_context-context.result c.take_context-context.ensures.context c.take_context-context.ensures.left c.cached-block.result.now c.cached-block.ensures
+    c.apply.new.self c.in-Ok.control c.in-Ok.context c.in-Ok.ensures.ok c.in-Ok.ensures.own c.in-Ok.ensures.kept.0 c.in-Ok.ensures.kept.1 Report Report stop h)
+    c.act_own.ensures.stop
+
+pub returns-in-Err-clause-stop : goal.returns-in-Err-clause-stop
+returns-in-Err-clause-stop g c = row_stops g.R.Rng.stream c.args.project.now c.args.slot c.args.which c.args.next c.args.late c.args.args.now c.args.self.now c.requires.ready c.requires.at c.requires.next c.rank-rank.ensures.ranks c.blocks-closed.ensures.closed c.take_context-context.new.self c.take_context-context.result c.take_context-context.ensures.context c.take_context-context.ensures.left c.cached-block.result.now c.cached-block.ensures (Control × Context) Report c.in-Err.stop c.in-Err.ensures.stop
+
+pub apply-requires-clause-group : goal.apply-requires-clause-group
+apply-requires-clause-group g c = (both (is_built_group (group c.cached-block.result.now.op)) (acts_alone c.cached-block.result.now.op) (c.requires.built.each c.args.next.target c.args.next.id c.cached-block.result.now c.cached-block.ensures)).0
+
+pub apply-requires-clause-alone : goal.apply-requires-clause-alone
+apply-requires-clause-alone g c = (both (is_built_group (group c.cached-block.result.now.op)) (acts_alone c.cached-block.result.now.op) (c.requires.built.each c.args.next.target c.args.next.id c.cached-block.result.now c.cached-block.ensures)).1

@@ -1,0 +1,48 @@
+-- A thread that was moved; the contracts of private functions alone cite these.
+use Rattle.std.specs.Prelude.{◌≡◌, ℕ, Bool, true, false, List, ◌++◌, Some}
+use Rattle.script_machine.specs.Outcome.{Outcome, Goes, with_room}
+use Rattle.script_machine.specs.Script.{Script, Then, Statement}
+use Rattle.script_machine.specs.Threads.{is_done}
+use Rattle.script_machine.specs.declared.threads.Report.{Report}
+use Rattle.script_machine.specs.declared.threads.Which.{Which}
+use Rattle.script_machine.specs.Pending.{Item, Position, dos}
+use Rattle.script_machine.specs.Places.{Places, at_place, put}
+use Rattle.script_machine.specs.Tasks.{status_after}
+use Rattle.project_file.specs.Trees.{script}
+use Rattle.thread_frames.specs.declared.level.Level.{Level}
+use Rattle.thread_frames.specs.Levels.{without_top, warp_flag}
+use Rattle.thread_frames.specs.Reading.{beneath}
+use Rattle.thread_frames.specs.Threads.{Thread, levels_of}
+use Rattle.thread_moves.specs.Standing.{IsAt, TopHolds}
+use Rattle.project_check.specs.declared.project.Project.{Project}
+use Rattle.executions.specs.Seen.{sheets}
+
+-- the thread at a place of the list holds block k at its top; what the block kept may have been taken out
+pub record IsAtBlock (p : Project) (which : Which) (ts : Places Thread) (target k : ℕ) : Type 0 where
+  pub thread : Thread
+  pub found : at_place which ts ≡ Some thread
+  pub target_is : thread.target ≡ target
+  pub alive : is_done thread.status ≡ false
+  pub top : TopHolds (sheets p target) thread.levels k
+
+abbrev pub with_levels : List Level → Report → Thread → Thread
+with_levels levels report t = record t { levels = levels; status = status_after report }
+
+-- the thread at a place stands at this position now
+pub record Moved (p : Project) (which : Which) (old new : Places Thread) (at : Position) (report : Report) : Type 0 where
+  pub before : Thread
+  pub found : at_place which old ≡ Some before
+  pub levels : List Level
+  pub new_is : new ≡ put which (with_levels levels report before) old
+  pub stands : IsAt (sheets p before.target) at levels report
+
+-- it had the statement of block k first
+abbrev pub MovesOn : Project → Which → (target k : ℕ) → (Statement → List Item → Bool → Position) → (old new : Places Thread) → Report → Type 0
+MovesOn p which target k at old new report =
+    (s : Statement) (rest : Script) → script (sheets p target) (Some k) ≡ Then s rest
+    → Moved p which old new (at s (dos rest ++ beneath (sheets p target) (without_top (levels_of (at_place which old)))) (warp_flag (levels_of (at_place which old)))) report
+
+-- whether there is room for one more level, where one is opened
+abbrev pub room_for : (opens : Bool) → ℕ → Outcome (Unit {0})
+room_for true n = with_room n tt
+room_for false n = Goes tt

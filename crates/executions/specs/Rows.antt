@@ -1,0 +1,57 @@
+-- The row of a block on a run; the contracts of private functions alone cite these.
+use Rattle.std.specs.Prelude.{◌≡◌, ℕ, Bool, List, ◌++◌, map, Some, Result}
+use Rattle.rand_core.specs.Stream.{Stream}
+use Rattle.scratch_values.specs.Named.{Arguments}
+use Rattle.script_words.specs.declared.stops.Stop.{Stop}
+use Rattle.script_machine.specs.Outcome.{Outcome, Goes, then_do, StopIs}
+use Rattle.script_machine.specs.Script.{Script, Then, Statement, Command, command_of}
+use Rattle.script_machine.specs.declared.threads.Context.{Context}
+use Rattle.script_machine.specs.declared.threads.Control.{Control}
+use Rattle.script_machine.specs.Pending.{Item, dos}
+use Rattle.script_machine.specs.Places.{Places, running}
+use Rattle.script_machine.specs.Step.{Moment, Applied, row, act}
+use Rattle.script_machine.specs.Tasks.{Task}
+use Rattle.script_machine.specs.World.{World}
+use Rattle.cached_blocks.specs.declared.block.CachedBlock.{CachedBlock}
+use Rattle.project_check.specs.declared.project.Project.{Project}
+use Rattle.project_check.specs.Loaded.{program_of}
+use Rattle.project_file.specs.Trees.{script}
+use Rattle.thread_frames.specs.Levels.{top_context, without_top}
+use Rattle.thread_frames.specs.Reading.{beneath, task}
+use Rattle.thread_frames.specs.Threads.{Thread, listed}
+use Rattle.executions.specs.declared.state.State.{State}
+use Rattle.executions.specs.Seen.{sheets, seen}
+
+-- tasks in the place of the threads of a run
+abbrev pub with_tasks : {R : Type 0} → (R → Stream) → Project → State R → Places Task → World Task
+with_tasks stream p r ts = record (seen stream p r) { threads = ts }
+
+-- a command that says what the block says, and tasks that are listed as the threads are
+pub record IsOf {R : Type 0} (b : CachedBlock) (r : State R) (d : Command) (ts : Places Task) : Type 0 where
+  pub op : d.op ≡ b.op
+  pub code : d.code ≡ b.code
+  pub listing : map (λ t. record { serial = t.serial; status = t.status }) ts.list ≡ listed r.threads
+
+-- the row of such a command, whatever the threads have to do
+abbrev pub row_on : {R : Type 0} → (R → Stream) → Project → Command → Arguments → (here thread : ℕ) → Context → State R → Places Task → Outcome Applied
+row_on stream p d a here thread c r ts = row (program_of p) d a here thread c (with_tasks stream p r ts)
+
+abbrev pub RowGoes : {R : Type 0} → (R → Stream) → Project → CachedBlock → Arguments → (here thread : ℕ) → Context → State R → Context → State R → Control → Type 0
+RowGoes stream p b a here thread old_context old new_context new control =
+    (d : Command) (ts : Places Task) → IsOf b old d ts
+    → row_on stream p d a here thread old_context old ts ≡ Goes (record { world = with_tasks stream p new ts; context = new_context; control = control })
+
+abbrev pub RowStops : {R T : Type 0} → (R → Stream) → Project → CachedBlock → Arguments → (here thread : ℕ) → Context → State R → Result T Stop → Type 0
+RowStops stream p b a here thread c r result = (d : Command) (ts : Places Task) → IsOf b r d ts → StopIs result (row_on stream p d a here thread c r ts)
+
+-- the row of a thread's statement with these arguments, and what its control does
+abbrev pub enacts : {R : Type 0} → (R → Stream) → Project → (i : ℕ) → (late : Bool) → Thread → Statement → List Item → Arguments → State R → Outcome (Moment (World Task))
+enacts stream p i late t s r a w =
+    then_do (row (program_of p) (command_of s) a t.of t.serial (top_context t.levels) (seen stream p w))
+    (λ x. act (program_of p) i late (task (sheets p) t) s r x.control x.context x.world)
+
+-- a fact of what the running thread does, whose top level holds block k
+abbrev pub Enacts : {R : Type 0} → (R → Stream) → Project → (i k : ℕ) → (late : Bool) → Arguments → State R → (Outcome (Moment (World Task)) → Type 0) → Type 0
+Enacts stream p i k late a w P =
+    (t : Thread) (s : Statement) (rest : Script) → running i w.threads ≡ Some t → script (sheets p t.target) (Some k) ≡ Then s rest
+    → P (enacts stream p i late t s (dos rest ++ beneath (sheets p t.target) (without_top t.levels)) a w)

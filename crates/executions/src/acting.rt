@@ -1,0 +1,98 @@
+//! What a control does with its own thread.
+
+ghost use Rattle.std.specs.Prelude.{◌≡◌, ◌<◌, true, false, Some, IfOk, slice_get};
+ghost use Rattle.opcode_table.specs.Kinds.{kind};
+ghost use Rattle.cached_blocks.specs.declared.block.CachedBlock.{CachedBlock};
+ghost use Rattle.cached_blocks.specs.Cached.{cached_blocks};
+ghost use Rattle.script_machine.specs.Keeping.{control_fits};
+ghost use Rattle.script_machine.specs.Laws as laws;
+ghost use Rattle.script_machine.specs.Outcome.{StopIs, most_levels};
+ghost use Rattle.script_machine.specs.Starting.{open_levels};
+ghost use Rattle.script_machine.specs.Step.{position, opens_level};
+ghost use Rattle.project_check.specs.Loaded.{program_of, sheet_at};
+ghost use Rattle.thread_frames.specs.Threads.{frames};
+ghost use Rattle.executions.specs.Moves.{IsAtBlock, MovesOn, room_for};
+
+use crate::moving::{call, enter, go_on, stay, stop_this_script};
+use crate::state::State;
+use project_check::Project;
+use script_machine::{BlockId, Context, Control, Report, TargetId, Which};
+use script_words::{Rng, Stop};
+use thread_frames::Threads;
+
+// Moves a thread as a control says that is of its own thread alone; its block keeps the context.
+fn act_own(
+    project: &Project,
+    threads: &mut Threads,
+    which: Which,
+    target: TargetId,
+    id: BlockId,
+    control: Control,
+    context: Context,
+    late: bool,
+) -> Result<Report, Stop>
+    requires at { IsAtBlock project.now which threads.old target id }
+    requires own { laws.is_own control ≡ true }
+    requires fits { (b : CachedBlock) → slice_get (cached_blocks (sheet_at target project.now)) id ≡ Some b → control_fits control (kind b.op) context ≡ true }
+    ensures at { IfOk result (MovesOn project.now which target id (λ s rest warp. position (program_of project.now) late warp s rest control context) threads.old threads.new) }
+    ensures room { IfOk result (λ report. opens_level control ≡ true → open_levels frames threads.old < most_levels) }
+    ensures stop { StopIs result (room_for (opens_level control) (open_levels frames threads.old)) }
+{
+    match control {
+        Control::Next => Ok(go_on(project, threads, which, target, id)),
+        Control::Branch { number, is_loop } => enter(
+            project, threads, which, target, id, number, is_loop, context,
+        ),
+        Control::Yield => Ok(stay(
+            project,
+            threads,
+            which,
+            target,
+            id,
+            context,
+            Report::Yielded,
+        )),
+        Control::YieldTick => Ok(stay(
+            project,
+            threads,
+            which,
+            target,
+            id,
+            context,
+            Report::Ticked,
+        )),
+        Control::Promise => Ok(stay(project, threads, which, target, id, context, Report::Waits)),
+        Control::Call { params, .. } => call(project, threads, which, target, id, params, late),
+        Control::StopThis => Ok(stop_this_script(project, threads, which, target, id)),
+        Control::StopOthers => unreachable!(),
+        Control::StopAll => unreachable!(),
+        Control::DeleteClone => unreachable!(),
+        Control::Start { .. } => unreachable!(),
+        Control::Clone { .. } => unreachable!(),
+    }
+}
+
+impl<R: Rng + Drop> State<R> {
+    // Moves the thread at a place as a control says that is of its own thread alone.
+    pub(crate) fn act_own(
+        &mut self,
+        project: &Project,
+        which: Which,
+        target: TargetId,
+        id: BlockId,
+        control: Control,
+        context: Context,
+        late: bool,
+    ) -> Result<Report, Stop>
+        requires at { IsAtBlock project.now which self.old.threads target id }
+        requires own { laws.is_own control ≡ true }
+        requires fits { (b : CachedBlock) → slice_get (cached_blocks (sheet_at target project.now)) id ≡ Some b → control_fits control (kind b.op) context ≡ true }
+        ensures at { IfOk result (MovesOn project.now which target id (λ s rest warp. position (program_of project.now) late warp s rest control context) self.old.threads self.new.threads) }
+        ensures room { IfOk result (λ report. opens_level control ≡ true → open_levels frames self.old.threads < most_levels) }
+        ensures others { self.new ≡ record self.old { threads = self.new.threads } }
+        ensures stop { StopIs result (room_for (opens_level control) (open_levels frames self.old.threads)) }
+    {
+        let threads = &mut self.threads;
+        act_own(project, threads, which, target, id, control, context, late)
+    }
+}

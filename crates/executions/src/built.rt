@@ -1,0 +1,73 @@
+//! Which projects are executed so far.
+
+ghost use Rattle.std.specs.Prelude.{◌≡◌, ◌<◌, true, false, length, Some, slice_get};
+ghost use Rattle.cached_blocks.specs.Cached.{cached_blocks};
+ghost use Rattle.project_check.specs.Loaded.{tables_of, blocks_at, sheet_at};
+ghost use Rattle.executions.specs.Built.{IsBuilt, IsBuiltIn, is_built as is_built_by, is_built_group};
+ghost use Rattle.control_blocks.specs.Afresh.{acts_alone};
+
+use opcode_table::{Group, Opcode, group};
+use project_check::Project;
+use script_machine::{BlockId, TargetId};
+
+// Whether the blocks of a group have rows that are executed so far.
+fn is_built_group(group: Group) -> bool
+    ensures { result ≡ is_built_group group }
+{
+    match group {
+        Group::Motion => false,
+        Group::Looks => false,
+        Group::Data => true,
+        Group::Control => true,
+    }
+}
+
+// Whether a block of an opcode acts on its own thread alone.
+fn acts_alone(op: Opcode) -> bool
+    ensures { result ≡ acts_alone op }
+{
+    !matches!(
+        op,
+        Opcode::ControlStop
+            | Opcode::ControlCreateCloneOf
+            | Opcode::ControlDeleteThisClone
+            | Opcode::EventBroadcast
+            | Opcode::EventBroadcastAndWait
+    )
+}
+
+// Whether a block of an opcode is executed so far.
+fn is_built_op(op: Opcode) -> bool
+    ensures { result ≡ is_built_by op }
+{
+    is_built_group(group(op)) && acts_alone(op)
+}
+
+// Whether all blocks of a target are executed so far.
+fn is_built_in(project: &Project, target: TargetId) -> bool
+    requires { target < length (tables_of project.now) }
+    ensures built { result ≡ true → IsBuiltIn project.now target }
+    ensures other { result ≡ false → IsBuiltIn project.now target → ⊥ }
+{
+    let count = project.blocks(target).len();
+    for block in 0..count {
+        if !is_built_op(project.cached(target, BlockId(block)).op) {
+            return false;
+        }
+    }
+    true
+}
+
+/// Whether all blocks of a project are executed so far, loose ones included: none of them is of motion, of looks or of sound,
+/// stops scripts, makes or deletes a clone, or sends a message.
+pub fn is_built(project: &Project) -> bool
+    ensures built { result ≡ true → IsBuilt project.now }
+    ensures other { result ≡ false → IsBuilt project.now → ⊥ }
+{
+    for target in 0..project.target_count() {
+        if !is_built_in(project, TargetId(target)) {
+            return false;
+        }
+    }
+    true
+}

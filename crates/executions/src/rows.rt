@@ -1,0 +1,131 @@
+//! The rows of blocks on the parts of a run.
+
+ghost use Rattle.std.specs.Prelude.{◌≡◌, ◌||◌, ℕ, true, false, IfOk};
+ghost use Rattle.opcode_table.specs.Kinds.{kind, group};
+ghost use Rattle.opcode_table.specs.declared.grouping.Group.TheVariants as group_of;
+ghost use Rattle.script_machine.specs.declared.threads.Control.TheVariants.{Next};
+ghost use Rattle.script_machine.specs.Keeping.{control_fits};
+ghost use Rattle.script_machine.specs.Laws.{is_own};
+ghost use Rattle.script_machine.specs.declared.threads.Context.TheVariants.{Fresh};
+ghost use Rattle.control_blocks.specs.Afresh.{acts_alone};
+ghost use Rattle.executions.specs.Built.{is_built_group};
+ghost use Rattle.executions.specs.Rows.{RowGoes, RowStops};
+
+use crate::state::State;
+use cached_blocks::CachedBlock;
+use opcode_table::{Group, group};
+use project_check::Project;
+use scratch_values::Args;
+use script_machine::{Context, Control, InstanceId, Serial};
+use script_words::{Rng, Stop};
+use std::alloc::Global;
+
+// Whether one of two holds.
+fn either(a: bool, b: bool) -> bool
+    ensures { result ≡ (a || b) }
+{
+    a || b
+}
+
+impl<R: Rng + Drop> State<R> {
+    // The row of a block of data.
+    fn apply_data(
+        &mut self,
+        project: &Project,
+        block: &CachedBlock,
+        args: &Args<'_>,
+        here: InstanceId,
+        context: Context,
+    ) -> Result<(Control, Context), Stop>
+        requires { group block.now.op ≡ group_of.Data }
+        ensures ok { IfOk result (λ r. (thread : ℕ) → RowGoes R.stream project.now block.now args.entry.now here thread context self.old r.1 self.new r.0) }
+        ensures next { IfOk result (λ r. r ≡ (Next, Fresh)) }
+        ensures kept { IfOk result (λ r. (self.new.threads ≡ self.old.threads) × (self.new.next_thread ≡ self.old.next_thread)) }
+        ensures stop { (thread : ℕ) → RowStops R.stream project.now block.now args.entry.now here thread context self.old result }
+    {
+        match data_blocks::apply(
+            block.op,
+            args,
+            here,
+            project.records(),
+            &self.targets,
+            &mut self.variables,
+            &mut self.words,
+        ) {
+            Ok((control, redraw)) => {
+                self.redraw = either(self.redraw, redraw);
+                Ok((control, Context::Fresh))
+            }
+            Err(stop) => Err(stop),
+        }
+    }
+
+    // The row of a block of control.
+    fn apply_control(
+        &mut self,
+        alloc: Global,
+        project: &Project,
+        block: &CachedBlock,
+        args: &Args<'_>,
+        here: InstanceId,
+        thread: Serial,
+        context: Context,
+    ) -> Result<(Control, Context), Stop>
+        requires group { group block.now.op ≡ group_of.Control }
+        requires alone { acts_alone block.now.op ≡ true }
+        ensures ok { IfOk result (λ r. RowGoes R.stream project.now block.now args.entry.now here thread context self.old r.1 self.new r.0) }
+        ensures fits { IfOk result (λ r. control_fits r.0 (kind block.now.op) r.1 ≡ true) }
+        ensures own { IfOk result (λ r. is_own r.0 ≡ true) }
+        ensures kept { IfOk result (λ r. (self.new.threads ≡ self.old.threads) × (self.new.next_thread ≡ self.old.next_thread)) }
+        ensures stop { RowStops R.stream project.now block.now args.entry.now here thread context self.old result }
+    {
+        let mut kept = context;
+        match control_blocks::apply(
+            alloc,
+            block,
+            args,
+            here,
+            thread,
+            project,
+            &mut self.targets,
+            &mut self.devices,
+            &self.threads,
+            &mut kept,
+        ) {
+            Ok((control, redraw)) => {
+                self.redraw = either(self.redraw, redraw);
+                Ok((control, kept))
+            }
+            Err(stop) => Err(stop),
+        }
+    }
+
+    // The row of a block of an instance, by the crate of its group.
+    pub(crate) fn apply(
+        &mut self,
+        alloc: Global,
+        project: &Project,
+        block: &CachedBlock,
+        args: &Args<'_>,
+        here: InstanceId,
+        thread: Serial,
+        context: Context,
+    ) -> Result<(Control, Context), Stop>
+        requires group { is_built_group (group block.now.op) ≡ true }
+        requires alone { acts_alone block.now.op ≡ true }
+        ensures ok { IfOk result (λ r. RowGoes R.stream project.now block.now args.entry.now here thread context self.old r.1 self.new r.0) }
+        ensures fits { IfOk result (λ r. control_fits r.0 (kind block.now.op) r.1 ≡ true) }
+        ensures own { IfOk result (λ r. is_own r.0 ≡ true) }
+        ensures kept { IfOk result (λ r. (self.new.threads ≡ self.old.threads) × (self.new.next_thread ≡ self.old.next_thread)) }
+        ensures stop { RowStops R.stream project.now block.now args.entry.now here thread context self.old result }
+    {
+        match group(block.op) {
+            Group::Motion => unreachable!(),
+            Group::Looks => unreachable!(),
+            Group::Data => self.apply_data(project, block, args, here, context),
+            Group::Control => {
+                self.apply_control(alloc, project, block, args, here, thread, context)
+            }
+        }
+    }
+}

@@ -1,0 +1,5 @@
+pub mod Slices
+pub mod Turns
+pub mod Visits
+pub mod OnePass
+pub mod FramePasses

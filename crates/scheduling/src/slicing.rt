@@ -1,0 +1,129 @@
+//! Slices of executions.
+
+ghost use Rattle.std.specs.Prelude.{◌≡◌, ◌≤◌, ◌<◌, ◌+◌, ◌^◌, IfOk, is_some};
+ghost use Rattle.script_machine.specs.Outcome.{Goes, StopIs};
+ghost use Rattle.script_machine.specs.Places.{running, at_place};
+ghost use Rattle.script_machine.specs.Slice as machine;
+ghost use Rattle.thread_frames.specs.Levels.{warp_flag, top_block};
+ghost use Rattle.thread_frames.specs.Threads.{levels_of};
+ghost use Rattle.project_check.specs.Loaded.{program_of};
+ghost use Rattle.executions.specs.Built.{IsBuilt};
+ghost use Rattle.executions.specs.Ready.{IsKept, IsReady};
+ghost use Rattle.executions.specs.Seen.{seen};
+ghost use Rattle.scheduling.specs.Turns.{CanTurn};
+
+use executions::State;
+use project_check::Project;
+use script_machine::{Report, Which};
+use script_words::{Rng, Stop};
+use std::alloc::Global;
+use thread_frames::Threads;
+
+// The most executions of a slice.
+const MOST_EXECUTIONS: u32 = 1_000_000;
+
+// The warp flag of the running thread; false where no thread runs.
+fn is_warp(threads: &Threads, slot: u64) -> bool
+    ensures { result ≡ warp_flag (levels_of (running slot threads.now)) }
+{
+    match threads.level(threads.place(slot), 0) {
+        Some(level) => level.warp,
+        None => false,
+    }
+}
+
+// The executions that are counted, after one more.
+fn counted_after(counted: u32, flag: bool) -> u32
+    requires { counted < 2 ^ 31 }
+    ensures value { result ≡ machine.counted_after counted flag }
+    ensures bound { result ≤ counted + 1 }
+{
+    if counted > 0 || flag {
+        counted + 1
+    } else {
+        counted
+    }
+}
+
+// Whether a slice goes on behind an execution.
+fn goes_on(report: Report, before: bool, after: bool, late: bool) -> bool
+    ensures { result ≡ machine.slice_goes_on report before after late }
+{
+    match report {
+        Report::Go => true,
+        Report::Uncovered => after && !late,
+        Report::Yielded => before && !late,
+        Report::Ticked => false,
+        Report::Waits => false,
+        Report::Ended => false,
+    }
+}
+
+/// A slice of the running thread, while the thread of a slot is visited: executions, until it lets other threads run, at
+/// most 1,000,000 (scratch-vm, engine/sequencer.js, stepThread). It goes on behind a yield where the warp flag before it was
+/// true, and at an uncovered loop where the restored flag is true, both while warp time has not passed: while no more
+/// executions than `warp` were counted, from the first at a true flag on. In scratch-vm a slice ends by clock time; here
+/// executions are counted. `Stop` is that of the first execution that stops, and is `NoMemory` only for want of memory.
+/// After a stop nothing is told of the run.
+pub fn slice<R: Rng + Drop>(
+    state: &mut State<R>,
+    alloc: Global,
+    project: &Project,
+    slot: u64,
+    warp: u32,
+) -> Result<(), Stop>
+    requires built { IsBuilt project.now }
+    requires ready { IsReady project.now slot state.old }
+    ensures ok { IfOk result (λ _. machine.slice (program_of project.now) warp slot machine.most_executions 0 (seen R.stream project.now state.old) ≡ Goes (seen R.stream project.now state.new)) }
+    ensures stop { StopIs result (machine.slice (program_of project.now) warp slot machine.most_executions 0 (seen R.stream project.now state.old)) }
+    ensures kept { IfOk result (λ _. IsKept project.now state.new) }
+{
+    let mut counted: u32 = 0;
+    for execution in 0..MOST_EXECUTIONS {
+        let before = is_warp(&state.threads, slot);
+        match state.step(alloc, project, slot, counted > warp) {
+            Ok(report) => {
+                counted = counted_after(counted, before);
+                let after = is_warp(&state.threads, slot);
+                if !goes_on(report, before, after, counted > warp) {
+                    return Ok(());
+                }
+            }
+            Err(stop) => return Err(stop),
+        }
+    }
+    Ok(())
+}
+
+// Whether the top level of a thread holds a block.
+fn has_block(threads: &Threads, which: Which) -> bool
+    ensures { result ≡ is_some (top_block (levels_of (at_place which threads.now))) }
+{
+    match threads.level(which, 0) {
+        Some(level) => level.block.is_some(),
+        None => false,
+    }
+}
+
+// The turn of the running thread: a slice; with nothing to do it is done, with no execution.
+pub(crate) fn turn<R: Rng + Drop>(
+    state: &mut State<R>,
+    alloc: Global,
+    project: &Project,
+    slot: u64,
+    warp: u32,
+) -> Result<(), Stop>
+    requires built { IsBuilt project.now }
+    requires alive { CanTurn project.now slot state.old }
+    ensures ok { IfOk result (λ _. machine.turn (program_of project.now) warp slot (seen R.stream project.now state.old) ≡ Goes (seen R.stream project.now state.new)) }
+    ensures stop { StopIs result (machine.turn (program_of project.now) warp slot (seen R.stream project.now state.old)) }
+    ensures kept { IfOk result (λ _. IsKept project.now state.new) }
+{
+    let which = state.threads.place(slot);
+    if has_block(&state.threads, which) {
+        slice(state, alloc, project, slot, warp)
+    } else {
+        state.threads.finish(which);
+        Ok(())
+    }
+}
