@@ -1,5 +1,8 @@
--- What a block can have kept that acts on other threads: nothing, where its thread could be at rest with it.
+-- Which blocks act on other threads or on instances, and what they can have kept then: nothing, where the thread could be at
+-- rest with it.
 use Rattle.std.specs.Prelude.{Bool, true, false}
+use Rattle.opcode_table.specs.declared.opcode.Opcode.{Opcode}
+use Rattle.opcode_table.specs.declared.opcode.Opcode.TheVariants.{ControlStop, ControlCreateCloneOf, ControlDeleteThisClone, EventBroadcast, EventBroadcastAndWait}
 use Rattle.opcode_table.specs.declared.kinds.Kind.{Kind}
 use Rattle.opcode_table.specs.declared.kinds.Kind.TheVariants.{Starts, Plain}
 use Rattle.script_machine.specs.declared.threads.Context.{Context}
@@ -21,3 +24,12 @@ was_afresh Starts (Started serials) = false
 was_afresh Starts _ = true
 was_afresh Plain _ = true
 was_afresh _ _ = false
+
+-- whether a block acts on its own thread alone: it stops no other script, makes and deletes no clone and sends no message
+abbrev pub acts_alone : Opcode → Bool
+acts_alone ControlStop = false
+acts_alone ControlCreateCloneOf = false
+acts_alone ControlDeleteThisClone = false
+acts_alone EventBroadcast = false
+acts_alone EventBroadcastAndWait = false
+acts_alone _ = true

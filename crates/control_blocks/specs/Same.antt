@@ -20,3 +20,4 @@ pub record KeepsWell (k : Kind) (c : Context) (control : Control) : Type 0 where
   pub fits : control_fits control k c ≡ true
   pub others : is_own control ≡ false → c ≡ Fresh
   pub acts : is_own control ≡ false → acts_on_others k ≡ true
+  pub alone : acts_on_others k ≡ false → is_own control ≡ true

@@ -12,7 +12,7 @@ ghost use Rattle.script_machine.specs.declared.threads.Control.TheVariants.{Next
 ghost use Rattle.targets.specs.Live.{IsSameCast};
 ghost use Rattle.thread_frames.specs.Threads.{listed};
 ghost use Rattle.scenes.specs.Scenes.{scene_in};
-ghost use Rattle.control_blocks.specs.Afresh.{was_afresh};
+ghost use Rattle.control_blocks.specs.Afresh.{acts_alone, was_afresh};
 ghost use Rattle.scenes.specs.Stops.{IsOfBubblesOrMemory};
 
 use crate::{loops, messages, procedures, questions, stopping, waiting};
@@ -59,6 +59,7 @@ pub fn apply(
     ensures kind { IfErr result IsOfBubblesOrMemory }
     ensures fits { IfOk result (λ r. control_fits r.0 (kind block.now.op) context.new ≡ true) }
     ensures own { IfOk result (λ r. is_own r.0 ≡ false → context.new ≡ Fresh) }
+    ensures alone { IfOk result (λ r. acts_alone block.now.op ≡ true → is_own r.0 ≡ true) }
     ensures afresh { IfOk result (λ r. is_own r.0 ≡ false → was_afresh (kind block.now.op) context.old ≡ true) }
     ensures cast { IsSameCast targets.old targets.new }
 {

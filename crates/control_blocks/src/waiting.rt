@@ -1,6 +1,6 @@
 //! Waiting for a time or a condition, and the timer.
 
-ghost use Rattle.std.specs.Prelude.{◌≡◌, List, codes, IfOk, if◌then◌else◌};
+ghost use Rattle.std.specs.Prelude.{◌≡◌, List, codes, true, IfOk, if◌then◌else◌};
 ghost use Rattle.opcode_table.specs.declared.kinds.Kind.TheVariants.{Plain, Waits};
 ghost use Rattle.script_machine.specs.ControlRows.{wait_row};
 ghost use Rattle.script_machine.specs.declared.instance.Instance.{Instance};
@@ -9,6 +9,7 @@ ghost use Rattle.script_machine.specs.declared.threads.Context.TheVariants.{Fres
 ghost use Rattle.script_machine.specs.Stores.{elapsed, from_zero, less};
 ghost use Rattle.script_machine.specs.View.{number_at, truth_at};
 ghost use Rattle.scenes.specs.Scenes.{scene_in};
+ghost use Rattle.script_machine.specs.Laws.{is_own};
 ghost use Rattle.control_blocks.specs.Same.{KeepsWell};
 
 use block_arguments::{number, truth};
@@ -86,6 +87,7 @@ pub(crate) fn wait_until(args: &Args<'_>, context: &mut Context) -> Control
     ensures control { result ≡ (if truth_at (codes "CONDITION") args.entry.now then Next else Yield) }
     ensures context { context.new ≡ Fresh }
     ensures keeps { KeepsWell Plain context.new result }
+    ensures own { is_own result ≡ true }
 {
     *context = Context::Fresh;
     if truth(args, "CONDITION") {

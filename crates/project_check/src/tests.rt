@@ -355,9 +355,13 @@ fn defined(rt: &impl Abort, project: &Project) {
     let definition = project.procedure(TargetId(0), "f");
     assert!(rt; definition.is_some_and(|id| id.0 == 1));
     assert!(rt; project.procedure(TargetId(0), "g").is_none());
-    let callee = project.callee(TargetId(0), "f").expect(rt, "a procedure");
-    assert_eq!(rt; callee.definition.0, 1);
-    assert_eq!(rt; callee.prototype.code.as_str(), "f");
+    match project.callee(TargetId(0), "f") {
+        Some(callee) => {
+            assert_eq!(rt; callee.definition.0, 1);
+            assert_eq!(rt; callee.prototype.code.as_str(), "f");
+        }
+        None => panic!(rt; "no procedure"),
+    }
     assert!(rt; project.callee(TargetId(1), "f").is_none());
 }
 
