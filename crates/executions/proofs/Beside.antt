@@ -1,6 +1,6 @@
 -- The running thread goes on where others are started or ended beside it.
-use Rattle.std.proofs.Common.{◌≡◌, ℕ, ◌+◌, ◌<◌, ◌^◌, Bool, true, false, not, List, [], ◌∷◌, ◌++◌, length, Option, Some, None, Result, Ok, Err, refl, sym, ap, ◌∙◌, subst, arith}
-use Rattle.std.specs.Prelude.{IfOk, slice_get, filter, ◌==◌, ◌&&◌, All}
+use Rattle.std.proofs.Common.{◌≡◌, ℕ, ◌<◌, ◌^◌, Bool, true, false, not, List, [], ◌∷◌, ◌++◌, length, Option, Some, None, Result, Ok, Err, refl, sym, ap, ◌∙◌, subst, arith}
+use Rattle.std.specs.Prelude.{IfOk, filter, ◌==◌, ◌&&◌}
 use Rattle.std.specs.Option.{option_map}
 use Rattle.std.proofs.lemmas.Option.{same_Some}
 use Rattle.rand_core.specs.Stream.{Stream}
@@ -32,7 +32,6 @@ use Rattle.project_file.proofs.Unrolling.{script-at}
 use Rattle.project_check.specs.declared.project.Project.{Project}
 use Rattle.project_check.specs.Loaded.{program_of, tables_of, ranks_at}
 use Rattle.scenes.specs.Scenes.{scene_in}
-use Rattle.thread_frames.specs.declared.level.Level.{Level}
 use Rattle.thread_frames.specs.Levels.{top_block, without_top, warp_flag}
 use Rattle.thread_frames.specs.Reading.{beneath, task}
 use Rattle.thread_frames.specs.Fit.{Fits}
@@ -43,7 +42,7 @@ use Rattle.hats.proofs.Headed.{starts-headed}
 use Rattle.executions.specs.declared.state.State.{State}
 use Rattle.executions.specs.declared.stepping.Next.{Next}
 use Rattle.executions.specs.Seen.{sheets, seen_threads, seen}
-use Rattle.executions.specs.Ready.{AllFit, IsKept, IsReady, IsAfter}
+use Rattle.executions.specs.Ready.{IsKept, IsReady, IsAfter}
 use Rattle.executions.specs.Moves.{IsAtBlock, Moved, MovesOn, with_levels}
 use Rattle.executions.specs.Nexts.{next_by, next_of}
 use Rattle.executions.specs.Rows.{Acts}

@@ -1,15 +1,13 @@
 -- Blocks and targets that were gone through.
-use Rattle.std.proofs.Common.{◌≡◌, ◌⊎◌, ℕ, zero, suc, ◌<◌, ◌≤◌, true, List, [], ◌∷◌, length, Some, subst, arith, inl, inr}
+use Rattle.std.proofs.Common.{◌≡◌, ◌⊎◌, ℕ, zero, suc, ◌<◌, ◌≤◌, List, [], ◌∷◌, length, Some, subst, arith, inl, inr}
 use Rattle.std.specs.Prelude.{slice_get, unwrap_or}
 use Rattle.std.proofs.lemmas.Option.{slice_get_within}
-use Rattle.cached_blocks.specs.declared.block.CachedBlock.{CachedBlock}
-use Rattle.cached_blocks.specs.Cached.{cached_blocks}
 use Rattle.cached_blocks.proofs.Told.{held}
 use Rattle.project_file.specs.declared.blocks.Block.{Block}
 use Rattle.project_check.specs.declared.project.Project.{Project}
 use Rattle.project_check.specs.Loaded.{tables_of, blocks_at}
 use Rattle.executions.specs.Seen.{sheets}
-use Rattle.executions.specs.Built.{is_built, IsBuiltIn, IsBuilt, AreBuiltTo, AreAllBuiltTo}
+use Rattle.executions.specs.Built.{IsBuiltIn, IsBuilt, AreBuiltTo, AreAllBuiltTo}
 
 -- all of a target's blocks
 pub all_in : (p : Project) (t n : ℕ) → AreBuiltTo p t n → length (blocks_at t p) ≤ n → IsBuiltIn p t
@@ -35,6 +33,7 @@ all_targets p n all le = record { each = λ t. go t (t_is t) }
   where
     t_is : (t : ℕ) → (t < n) ⊎ (n ≤ t)
     t_is t = grind arith
+
     go : (t : ℕ) → (t < n) ⊎ (n ≤ t) → IsBuiltIn p t
     go t (inl lt) = all t lt
     go t (inr ge) = none_past p t (omega (arith, le, ge))

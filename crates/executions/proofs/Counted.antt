@@ -4,18 +4,18 @@ use Rattle.std.specs.Prelude.{slice_get, sum_by, option_map, IfSome, if◌then�
 use Rattle.std.specs.List.{All}
 use Rattle.std.proofs.lemmas.List.Elements.{All-head, All-tail}
 use Rattle.std.proofs.lemmas.List.Sums.{sum_by-cons}
-use Rattle.script_machine.specs.Script.{Script, End, Then, Statement}
+use Rattle.script_machine.specs.Script.{Script, End, Then}
 use Rattle.script_machine.specs.Threads.{is_done}
-use Rattle.script_machine.specs.Pending.{Item, Again, Back, Branch, dos, markers}
-use Rattle.script_machine.specs.Places.{Places, sum_some, Everyone}
+use Rattle.script_machine.specs.Pending.{Item, dos, markers}
+use Rattle.script_machine.specs.Places.{Places, sum_some}
 use Rattle.script_machine.specs.Starting.{open_levels}
-use Rattle.script_machine.specs.Tasks.{Task, depth, tasks}
+use Rattle.script_machine.specs.Tasks.{depth, tasks}
 use Rattle.project_file.specs.declared.blocks.Block.{Block}
 use Rattle.project_file.specs.Trees.{Sheet, target_of_link, script, statement}
 use Rattle.thread_frames.specs.declared.level.Level.{Level}
 use Rattle.thread_frames.specs.Reading.{params_in, first_item, marker, block_items, items_at, beneath, pending, task}
 use Rattle.thread_frames.specs.Threads.{Thread, frames}
-use Rattle.thread_frames.specs.Fit.{kind_of, IsUnder, AllUnder, LevelsFit, IsAtRest, Fits}
+use Rattle.thread_frames.specs.Fit.{kind_of, AllUnder, IsAtRest, Fits}
 use Rattle.thread_moves.proofs.Fits.{under_marker}
 use Rattle.thread_moves.proofs.Items.{first_is, at_block}
 use Rattle.project_check.specs.declared.project.Project.{Project}
@@ -42,8 +42,8 @@ module _ (sheet : Sheet) where
       let r : List Item = dos (script sheet (target_of_link u.block.next)) ++ beneath sheet ls in
       let more : markers r ≡ length ls = markers_dos (script sheet (target_of_link u.block.next)) (beneath sheet ls) ∙ markers_beneath ls h.1 in
       let here : markers (beneath sheet (l ∷ ls)) ≡ markers r + 1 =
-          ap (λ x. markers (x ++ beneath sheet ls)) (at_block sheet (marker l) l.block u.id u.block u.holds u.found)
-          ∙ under_marker (λ x. markers (x ∷ r) ≡ markers r + 1) l.context l.is_loop (kind_of u.block) (params_in l) l.warp (statement sheet u.id u.block) u.fits (λ k m. refl) (λ k. refl) (λ k. refl) in
+      ap (λ x. markers (x ++ beneath sheet ls)) (at_block sheet (marker l) l.block u.id u.block u.holds u.found)
+      ∙ under_marker (λ x. markers (x ∷ r) ≡ markers r + 1) l.context l.is_loop (kind_of u.block) (params_in l) l.warp (statement sheet u.id u.block) u.fits (λ k m. refl) (λ k. refl) (λ k. refl) in
       omega (arith, here, more)
 
   depth_open : (ls : List Level) → IsAtRest sheet ls → markers (pending sheet ls) + 1 ≡ length ls

@@ -1,5 +1,5 @@
 -- The block of the running thread: its row, and the control of its own thread.
-use Rattle.std.proofs.Common.{◌≡◌, ℕ, ◌<◌, ◌+◌, Bool, true, false, List, [], ◌∷◌, ◌++◌, length, Option, Some, None, Result, Ok, Err, refl, sym, ap, ◌∙◌, subst, arith}
+use Rattle.std.proofs.Common.{◌≡◌, ℕ, ◌<◌, Bool, true, false, List, [], ◌∷◌, ◌++◌, Option, Some, None, Result, Ok, Err, refl, sym, ap, ◌∙◌, subst, arith}
 use Rattle.std.specs.Prelude.{slice_get, unwrap_or, IfOk}
 use Rattle.rand_core.specs.Stream.{Stream}
 use Rattle.script_words.specs.declared.counting.Counted.{Counted}
@@ -22,7 +22,7 @@ use Rattle.script_machine.specs.Threads.{Params}
 use Rattle.script_machine.specs.View.{View}
 use Rattle.script_machine.specs.Words.{Drawn, seen_words}
 use Rattle.script_machine.specs.Laws.{is_own}
-use Rattle.script_machine.specs.Pending.{Item, Position, dos}
+use Rattle.script_machine.specs.Pending.{Item, dos}
 use Rattle.script_machine.specs.Places.{Places, at_place, put, place, running, on_place}
 use Rattle.script_machine.specs.Starting.{open_levels}
 use Rattle.script_machine.specs.Step.{Moment, position, opens_level, row, act, step}
@@ -30,7 +30,7 @@ use Rattle.script_machine.specs.Tasks.{Task}
 use Rattle.script_machine.specs.World.{World}
 use Rattle.project_file.specs.Linked.{IsClosed, AreRanks}
 use Rattle.project_file.specs.declared.blocks.Block.{Block}
-use Rattle.project_file.specs.Trees.{Sheet, target_of_link, script, statement}
+use Rattle.project_file.specs.Trees.{Sheet, script}
 use Rattle.project_file.proofs.Unrolling.{held_at}
 use Rattle.project_check.specs.declared.project.Project.{Project}
 use Rattle.project_check.specs.Loaded.{program_of, blocks_at, ranks_at}
@@ -55,7 +55,7 @@ use Rattle.executions.specs.Nexts.{next_by, next_of}
 use Rattle.executions.specs.Rows.{with_tasks, RowGoes, RowStops, enacts, Enacts, Acts}
 use Rattle.executions.proofs.Placing.{put_at, put_self}
 use Rattle.executions.proofs.Stops.{stop-then, stop-same}
-use Rattle.executions.proofs.Taking.{without, holds_by, found, mid_is, at_block, listing}
+use Rattle.executions.proofs.Taking.{without, found, mid_is, at_block, listing}
 use Rattle.executions.proofs.Steps as steps
 
 -- a block that acts on others had kept nothing
@@ -262,7 +262,7 @@ module _ {R : Type 0} (stream : R → Stream) (p : Project) (i : ℕ) (which : W
       others_act P acts =
           told P
           (subst P (sym (steps.row_acts stream p i n.id late w ready facts.holds ranked a new control new_context (row_here new control new_context goes)
-              ∙ (λ j. act (program_of p) i late (task (sheets p) ready.thread) s_ r_ control (fresh j) (seen stream p (record new { threads = sym threads_same j })))))
+          ∙ (λ j. act (program_of p) i late (task (sheets p) ready.thread) s_ r_ control (fresh j) (seen stream p (record new { threads = sym threads_same j })))))
           (acts ready.thread s_ (steps.rest stream p i n.id late w ready facts.holds ranked) (ap (running i) threads_same ∙ ready.found) (steps.script_is stream p i n.id late w ready facts.holds ranked)))
 
 -- answers that were returned as they were

@@ -1,26 +1,23 @@
 -- The running thread executes the block of its top level, with what the block kept and the parameters that it sees.
-use Rattle.std.proofs.Common.{◌≡◌, ℕ, Bool, true, false, List, [], ◌∷◌, ◌++◌, Option, Some, None, refl, sym, ap, ◌∙◌, subst}
-use Rattle.std.specs.Prelude.{slice_get, is_some, unwrap_or}
-use Rattle.std.specs.Option.{option_map}
+use Rattle.std.proofs.Common.{◌≡◌, ℕ, Bool, true, false, List, [], ◌∷◌, ◌++◌, Option, Some, None, refl, sym, ap, ◌∙◌}
+use Rattle.std.specs.Prelude.{is_some, unwrap_or}
 use Rattle.opcode_table.specs.declared.kinds.Kind.{Kind}
-use Rattle.opcode_table.specs.declared.kinds.Kind.TheVariants.{Choice, Endless, Counted, Calls}
-use Rattle.script_machine.specs.Outcome.{Outcome}
 use Rattle.script_machine.specs.Script.{Script, End, Then, Statement}
 use Rattle.script_machine.specs.Program.{Program}
 use Rattle.script_machine.specs.Threads.{Params}
 use Rattle.script_machine.specs.declared.threads.Context.{Context}
 use Rattle.script_machine.specs.declared.threads.Context.TheVariants.{Fresh, Repeat, Wait, Glide, Started, Asked, Spoken, Called}
-use Rattle.script_machine.specs.Keeping.{is_called, under_fits, top_fits}
-use Rattle.script_machine.specs.Pending.{Item, Again, Back, Branch, dos, params_in}
-use Rattle.script_machine.specs.Step.{Moment, execute, execute_first}
+use Rattle.script_machine.specs.Keeping.{is_called, top_fits}
+use Rattle.script_machine.specs.Pending.{Item, dos, params_in}
+use Rattle.script_machine.specs.Step.{execute, execute_first}
 use Rattle.script_machine.specs.Tasks.{Task}
 use Rattle.script_machine.specs.World.{World}
 use Rattle.project_file.specs.declared.blocks.Block.{Block}
 use Rattle.project_file.specs.Trees.{Sheet, target_of_link, script, statement}
 use Rattle.thread_frames.specs.declared.level.Level.{Level}
 use Rattle.thread_frames.specs.Levels.{params_or, near_params}
-use Rattle.thread_frames.specs.Reading.{params_in as level_params, first_by, first_item, marker_by, marker, beneath, pending}
-use Rattle.thread_frames.specs.Fit.{kind_of, IsUnder, AllUnder}
+use Rattle.thread_frames.specs.Reading.{params_in as level_params, first_by, marker, beneath}
+use Rattle.thread_frames.specs.Fit.{kind_of, AllUnder}
 use Rattle.thread_moves.proofs.Fits.{under_marker}
 use Rattle.thread_moves.proofs.Items.{at_block}
 

@@ -1,22 +1,21 @@
 -- The levels of a thread were taken, moved and put back.
-use Rattle.std.proofs.Common.{◌≡◌, ℕ, ◌+◌, ◌≤◌, Bool, List, [], ◌∷◌, ◌++◌, length, Some, refl, sym, ap, ◌∙◌, subst, arith}
-use Rattle.script_machine.specs.Script.{Script, Then, Statement}
+use Rattle.std.proofs.Common.{◌≡◌, ℕ, ◌+◌, ◌≤◌, Bool, List, [], ◌++◌, length, sym, ap, ◌∙◌, subst, arith}
+use Rattle.script_machine.specs.Script.{Statement}
 use Rattle.script_machine.specs.declared.threads.Which.{Which}
 use Rattle.script_machine.specs.declared.threads.Report.{Report}
 use Rattle.script_machine.specs.Outcome.{most_levels}
 use Rattle.script_machine.specs.Pending.{Item, Position, dos}
 use Rattle.script_machine.specs.Places.{Places, at_place, put, on_place}
-use Rattle.project_file.specs.Trees.{script}
 use Rattle.thread_frames.specs.declared.level.Level.{Level}
 use Rattle.thread_frames.specs.Levels.{without_top, warp_flag}
 use Rattle.thread_frames.specs.Reading.{beneath}
-use Rattle.thread_frames.specs.Threads.{Thread, frames, levels_of, on_levels}
+use Rattle.thread_frames.specs.Threads.{Thread, levels_of, on_levels}
 use Rattle.thread_frames.specs.Counting.{open_in}
 use Rattle.thread_frames.proofs.Counts.{open_in-put}
 use Rattle.thread_moves.specs.Standing.{IsAt, TopHolds, MovesTo}
 use Rattle.project_check.specs.declared.project.Project.{Project}
 use Rattle.executions.specs.Seen.{sheets}
-use Rattle.executions.specs.Moves.{IsAtBlock, Moved, MovesOn, with_levels}
+use Rattle.executions.specs.Moves.{IsAtBlock, MovesOn, with_levels}
 use Rattle.executions.proofs.Placing.{on_is, on_again}
 
 module _ (p : Project) (which : Which) (target k : ℕ) (old mid : Places Thread) (lent : List Level) (at : IsAtBlock p which old target k)

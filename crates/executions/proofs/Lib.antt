@@ -14,3 +14,4 @@ pub mod Kept
 pub mod Ranks
 pub mod Sights
 pub mod Beside
+pub mod NoClones

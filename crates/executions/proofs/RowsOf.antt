@@ -1,8 +1,7 @@
 -- The row of a block by its group.
-use Rattle.std.proofs.Common.{◌≡◌, ℕ, Bool, List, Err, refl, sym, ap, ◌∙◌, subst}
-use Rattle.std.specs.Prelude.{◌||◌, map}
+use Rattle.std.proofs.Common.{◌≡◌, ℕ, Bool, List, Err, sym, ap, ◌∙◌}
+use Rattle.std.specs.Prelude.{◌||◌}
 use Rattle.rand_core.specs.Stream.{Stream}
-use Rattle.opcode_table.specs.declared.grouping.Group.{Group}
 use Rattle.opcode_table.specs.declared.grouping.Group.TheVariants.{Data, Control as ControlGroup}
 use Rattle.opcode_table.specs.Kinds.{group}
 use Rattle.scratch_values.specs.Named.{Arguments}
@@ -13,7 +12,6 @@ use Rattle.script_machine.specs.Script.{Command}
 use Rattle.script_machine.specs.Program.{Records}
 use Rattle.script_machine.specs.declared.instance.Instance.{Instance}
 use Rattle.script_machine.specs.Stores.{Variables, Devices}
-use Rattle.script_machine.specs.Threads.{Listed}
 use Rattle.script_machine.specs.declared.threads.Context.{Context}
 use Rattle.script_machine.specs.declared.threads.Control.{Control}
 use Rattle.script_machine.specs.Places.{Places}
@@ -21,11 +19,10 @@ use Rattle.script_machine.specs.View.{Row}
 use Rattle.script_machine.specs.Parts.{Scene, DataParts}
 use Rattle.script_machine.specs.DataRows.{data_row}
 use Rattle.script_machine.specs.ControlRows.{control_row}
-use Rattle.script_machine.specs.Stopping.{scene_of, with_scene}
-use Rattle.script_machine.specs.Step.{Applied, applied, with_data, row_by, row}
+use Rattle.script_machine.specs.Stopping.{with_scene}
+use Rattle.script_machine.specs.Step.{applied, with_data, row_by}
 use Rattle.script_machine.specs.Tasks.{Task}
 use Rattle.script_machine.specs.Words.{seen_words}
-use Rattle.script_machine.specs.World.{World}
 use Rattle.cached_blocks.specs.declared.block.CachedBlock.{CachedBlock}
 use Rattle.project_check.specs.declared.project.Project.{Project}
 use Rattle.project_check.specs.Loaded.{program_of}

@@ -1,6 +1,6 @@
 -- One execution of the code is one of the machine.
-use Rattle.std.proofs.Common.{◌≡◌, ℕ, ◌<◌, ◌+◌, Bool, true, false, List, [], ◌∷◌, ◌++◌, Option, Some, None, Err, refl, sym, ap, ◌∙◌, subst, arith}
-use Rattle.std.specs.Prelude.{slice_get, unwrap_or, is_some, nat_lt, if◌then◌else◌}
+use Rattle.std.proofs.Common.{◌≡◌, ℕ, ◌<◌, Bool, true, false, List, [], ◌∷◌, ◌++◌, Some, Err, refl, sym, ap, ◌∙◌, subst, arith}
+use Rattle.std.specs.Prelude.{unwrap_or, is_some, nat_lt, if◌then◌else◌}
 use Rattle.std.specs.Option.{option_map}
 use Rattle.std.proofs.lemmas.Bool.Decides.{nat_tests}
 use Rattle.rand_core.specs.Stream.{Stream}
@@ -20,36 +20,34 @@ use Rattle.script_machine.specs.declared.threads.Which.{Which}
 use Rattle.script_machine.specs.Laws.{is_own}
 use Rattle.script_machine.specs.Keeping.{is_called, top_fits}
 use Rattle.script_machine.specs.Pending.{Item, Position, dos}
-use Rattle.script_machine.specs.Places.{Places, at_place, put, place, running}
+use Rattle.script_machine.specs.Places.{Places, at_place, put, place}
 use Rattle.script_machine.specs.Evaluate.{evaluated}
-use Rattle.script_machine.specs.Step.{Moment, Applied, position, opens_level, moved, moved_with_room, act, view_of, row, execute, execute_first, step_by, step}
-use Rattle.script_machine.specs.Tasks.{Task, levels, tasks}
+use Rattle.script_machine.specs.Step.{Moment, position, opens_level, moved, moved_with_room, act, view_of, row, execute, execute_first, step_by, step}
+use Rattle.script_machine.specs.Tasks.{Task, levels}
 use Rattle.script_machine.specs.Words.{Drawn, seen_words}
 use Rattle.script_machine.specs.World.{World}
-use Rattle.project_file.specs.declared.blocks.Block.{Block}
 use Rattle.project_file.specs.Trees.{Sheet, target_of_link, script, statement}
 use Rattle.project_file.proofs.Unrolling.{script-at}
 use Rattle.project_check.specs.declared.project.Project.{Project}
 use Rattle.project_check.specs.Loaded.{program_of}
-use Rattle.thread_frames.specs.declared.level.Level.{Level}
-use Rattle.thread_frames.specs.Levels.{top_block, top_context, near_params, without_top, warp_flag}
+use Rattle.thread_frames.specs.Levels.{top_block, top_context, near_params, without_top}
 use Rattle.thread_frames.specs.Reading.{params_in, first_item, beneath, pending, task}
 use Rattle.thread_frames.specs.Fit.{kind_of}
-use Rattle.thread_frames.specs.Threads.{Thread, frames, levels_of}
+use Rattle.thread_frames.specs.Threads.{Thread, frames}
 use Rattle.script_machine.specs.Starting.{open_levels}
 use Rattle.thread_moves.specs.Ranked.{IsRanked}
 use Rattle.thread_moves.specs.Standing.{IsAt, TopHolds}
 use Rattle.thread_moves.proofs.Items.{at_block as items_at_block}
 use Rattle.executions.specs.declared.state.State.{State}
 use Rattle.executions.specs.Seen.{sheets, seen_threads, seen}
-use Rattle.executions.specs.Ready.{AllFit, IsKept, IsReady, IsAfter}
+use Rattle.executions.specs.Ready.{IsReady, IsAfter}
 use Rattle.executions.specs.Moves.{with_levels, Moved, room_for}
 use Rattle.executions.specs.Rows.{with_tasks, enacts, Enacts}
 use Rattle.executions.proofs.Stops.{stop-then, stop-same}
 use Rattle.executions.proofs.Placing.{running_seen, put_at, put_put}
 use Rattle.executions.proofs.Worlds.{moved_is, after}
 use Rattle.executions.proofs.Counted.{open_seen}
-use Rattle.executions.proofs.Firsts.{seen_by, first_executes, params_seen}
+use Rattle.executions.proofs.Firsts.{first_executes, params_seen}
 use Rattle.executions.proofs.Taking.{holds_by, holds_before, without}
 
 -- a control of its own thread moves it, with room for a level
@@ -166,7 +164,7 @@ module _ {R : Type 0} (stream : R → Stream) (p : Project) (i k : ℕ) (late : 
   -- then the row applies, and its control acts
   module _ (a : Arguments) (applied_state : State R) (control : Control) (context : Context)
       (row_is : row (program_of p) (command_of s) a ready.thread.of ready.thread.serial (top_context ready.thread.levels) (seen stream p w)
-          ≡ Goes (record { world = with_tasks stream p applied_state (seen_threads p w.threads); context = context; control = control })) where
+      ≡ Goes (record { world = with_tasks stream p applied_state (seen_threads p w.threads); context = context; control = control })) where
     abbrev pub acting : State R
     acting = record applied_state { threads = w.threads }
 

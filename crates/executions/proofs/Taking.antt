@@ -1,24 +1,19 @@
 -- The context of the running thread's block was taken out.
-use Rattle.std.proofs.Common.{◌≡◌, ℕ, zero, suc, ◌<◌, Bool, true, false, List, [], ◌∷◌, ◌++◌, length, map, Option, Some, None, refl, sym, ap, ◌∙◌, subst, arith}
-use Rattle.std.specs.Prelude.{slice_get, slice_set, is_some}
-use Rattle.std.proofs.lemmas.List.{map-set}
-use Rattle.script_machine.specs.Script.{Script, Then, Statement}
-use Rattle.script_machine.specs.Keeping.{is_called, top_fits}
-use Rattle.script_machine.specs.Threads.{Listed, is_done}
-use Rattle.script_machine.specs.declared.threads.Context.{Context}
+use Rattle.std.proofs.Common.{◌≡◌, ℕ, zero, suc, List, [], ◌∷◌, map, Some, refl, sym, ap, ◌∙◌, subst}
+use Rattle.std.specs.Prelude.{slice_get, slice_set}
+use Rattle.script_machine.specs.Threads.{Listed}
 use Rattle.script_machine.specs.declared.threads.Context.TheVariants.{Fresh}
 use Rattle.script_machine.specs.declared.threads.Which.{Which}
 use Rattle.script_machine.specs.declared.threads.Which.TheVariants.{Slot, Detached}
-use Rattle.script_machine.specs.Places.{Places, at_place, put, place, running, on_place}
-use Rattle.project_file.specs.declared.blocks.Block.{Block}
+use Rattle.script_machine.specs.Places.{Places, at_place, put, place, on_place}
 use Rattle.project_file.specs.Trees.{Sheet}
 use Rattle.project_file.proofs.Unrolling.{held_at}
 use Rattle.project_check.specs.declared.project.Project.{Project}
 use Rattle.thread_frames.specs.declared.level.Level.{Level}
-use Rattle.thread_frames.specs.Levels.{on_top, with_context, top_block, top_context}
-use Rattle.thread_frames.specs.Fit.{kind_of, block_at, top_at, IsReadyAt, IsHeld}
+use Rattle.thread_frames.specs.Levels.{on_top, with_context, top_block}
+use Rattle.thread_frames.specs.Fit.{top_at, IsReadyAt, IsHeld}
 use Rattle.thread_frames.specs.Reading.{task}
-use Rattle.thread_frames.specs.Threads.{Thread, levels_of, on_levels, listed}
+use Rattle.thread_frames.specs.Threads.{Thread, on_levels, listed}
 use Rattle.thread_moves.specs.Standing.{TopHolds}
 use Rattle.thread_moves.proofs.Items.{block_at_is}
 use Rattle.executions.specs.declared.state.State.{State}

@@ -1,14 +1,13 @@
 -- What was done with the running thread is seen in the world.
-use Rattle.std.proofs.Common.{◌≡◌, ℕ, ◌<◌, Bool, true, false, List, [], ◌∷◌, length, Option, Some, None, refl, sym, ap, ◌∙◌, subst, arith}
+use Rattle.std.proofs.Common.{◌≡◌, ℕ, Bool, true, false, List, [], ◌∷◌, Some, refl, sym, ap, ◌∙◌, subst, arith}
 use Rattle.std.specs.Prelude.{is_some}
 use Rattle.rand_core.specs.Stream.{Stream}
 use Rattle.script_machine.specs.declared.threads.Report.{Report}
 use Rattle.script_machine.specs.declared.threads.Report.TheVariants.{Go, Uncovered, Yielded, Ticked, Waits, Ended}
-use Rattle.script_machine.specs.declared.threads.Which.{Which}
 use Rattle.script_machine.specs.Threads.{is_done}
 use Rattle.script_machine.specs.Pending.{Position}
 use Rattle.script_machine.specs.Places.{Places, place, put, running, on_running, Everyone}
-use Rattle.script_machine.specs.Tasks.{Task, at_position, status_after}
+use Rattle.script_machine.specs.Tasks.{at_position, status_after}
 use Rattle.script_machine.specs.Step.{moved}
 use Rattle.project_check.specs.declared.project.Project.{Project}
 use Rattle.project_file.specs.Trees.{Sheet}
@@ -16,11 +15,11 @@ use Rattle.thread_frames.specs.declared.level.Level.{Level}
 use Rattle.thread_frames.specs.Levels.{top_block}
 use Rattle.thread_frames.specs.Reading.{task}
 use Rattle.thread_frames.specs.Threads.{Thread}
-use Rattle.thread_frames.specs.Fit.{Fits, LevelsFit, IsReadyAt, IsAtRest}
+use Rattle.thread_frames.specs.Fit.{Fits, IsReadyAt, IsAtRest}
 use Rattle.thread_moves.specs.Standing.{IsAt, is_ended, IsReadyUnless as LevelsReadyUnless}
 use Rattle.executions.specs.declared.state.State.{State}
 use Rattle.executions.specs.Seen.{sheets, seen_threads, seen}
-use Rattle.executions.specs.Ready.{AllFit, IsKept, IsReady, IsReadyUnless, IsAfter}
+use Rattle.executions.specs.Ready.{AllFit, IsKept, IsReadyUnless, IsAfter}
 use Rattle.executions.specs.Moves.{with_levels}
 use Rattle.executions.proofs.Placing.{running_put, everyone_put, on_running_seen}
 

@@ -1,9 +1,12 @@
 -- Which blocks are executed so far.
-use Rattle.std.specs.Prelude.{◌≡◌, ℕ, ◌<◌, Bool, true, false, slice_get, Some}
+use Rattle.std.specs.Prelude.{◌≡◌, ℕ, ◌<◌, ◌&&◌, Bool, true, false, slice_get, Some}
 use Rattle.opcode_table.specs.declared.opcode.Opcode.{Opcode}
+use Rattle.opcode_table.specs.declared.opcode.Opcode.TheVariants.{ControlCreateCloneOf}
 use Rattle.opcode_table.specs.declared.grouping.Group.{Group}
 use Rattle.opcode_table.specs.declared.grouping.Group.TheVariants.{Motion, Looks, Data, Control}
 use Rattle.opcode_table.specs.Kinds.{group}
+use Rattle.script_machine.specs.declared.threads.Control.{Control as Act}
+use Rattle.script_machine.specs.declared.threads.Control.TheVariants.{Clone}
 use Rattle.cached_blocks.specs.declared.block.CachedBlock.{CachedBlock}
 use Rattle.cached_blocks.specs.Cached.{cached_blocks}
 use Rattle.project_check.specs.declared.project.Project.{Project}
@@ -15,8 +18,18 @@ is_built_group Looks = false
 is_built_group Data = true
 is_built_group Control = true
 
+-- all but the block that makes clones
+abbrev pub makes_no_clone : Opcode → Bool
+makes_no_clone ControlCreateCloneOf = false
+makes_no_clone _ = true
+
+abbrev pub is_clone : Act → Bool
+is_clone (Clone original) = true
+is_clone _ = false
+
+-- a block whose row and control are executed so far
 abbrev pub is_built : Opcode → Bool
-is_built op = is_built_group (group op)
+is_built op = is_built_group (group op) && makes_no_clone op
 
 -- all blocks of a target are built
 abbrev pub IsBuiltIn : Project → (t : ℕ) → Type 0

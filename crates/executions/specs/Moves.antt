@@ -1,5 +1,5 @@
 -- A thread that was moved; the contracts of private functions alone cite these.
-use Rattle.std.specs.Prelude.{◌≡◌, ℕ, Bool, true, false, List, [], ◌∷◌, ◌++◌, Some}
+use Rattle.std.specs.Prelude.{◌≡◌, ℕ, Bool, true, false, List, ◌++◌, Some}
 use Rattle.script_machine.specs.Outcome.{Outcome, Goes, with_room}
 use Rattle.script_machine.specs.Script.{Script, Then, Statement}
 use Rattle.script_machine.specs.Threads.{is_done}

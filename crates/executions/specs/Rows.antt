@@ -5,11 +5,9 @@ use Rattle.scratch_values.specs.Named.{Arguments}
 use Rattle.script_words.specs.declared.stops.Stop.{Stop}
 use Rattle.script_machine.specs.Outcome.{Outcome, Goes, then_do, StopIs}
 use Rattle.script_machine.specs.Script.{Script, Then, Statement, Command, command_of}
-use Rattle.script_machine.specs.Threads.{Listed}
 use Rattle.script_machine.specs.declared.threads.Context.{Context}
 use Rattle.script_machine.specs.declared.threads.Context.TheVariants.{Fresh}
 use Rattle.script_machine.specs.declared.threads.Control.{Control}
-use Rattle.script_machine.specs.declared.threads.Report.{Report}
 use Rattle.script_machine.specs.Pending.{Item, dos}
 use Rattle.script_machine.specs.Places.{Places, running}
 use Rattle.script_machine.specs.Step.{Moment, Applied, row, act}

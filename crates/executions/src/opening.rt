@@ -19,11 +19,7 @@ use variables::Variables;
 impl<R: Rng + Drop> State<R> {
     /// The state with which a run of a project begins: its originals in executable order, their variables and lists, no
     /// threads. The first thread will have the number 1. The only error is want of memory.
-    pub fn open(
-        alloc: Global,
-        project: &Project,
-        words: Counted<R>,
-    ) -> Result<State<R>, AllocError>
+    pub fn open(alloc: Global, project: &Project, words: Counted<R>) -> Result<State<R>, AllocError>
         ensures world { IfOk result (λ state. seen R.stream project.now state ≡ first_world (program_of project.now) (seen_words R.stream words)) }
         ensures kept { IfOk result (λ state. IsKept project.now state) }
         ensures alone { IfOk result (λ state. state.threads.detached ≡ None) }

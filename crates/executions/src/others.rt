@@ -10,6 +10,7 @@ ghost use Rattle.script_machine.specs.Laws as laws;
 ghost use Rattle.script_machine.specs.Outcome.{Goes, StopIs};
 ghost use Rattle.script_machine.specs.Places.{at_place, place};
 ghost use Rattle.project_check.specs.Loaded.{tables_of, blocks_at, sheet_at};
+ghost use Rattle.executions.specs.Built.{is_clone};
 ghost use Rattle.executions.specs.Nexts.{next_of};
 ghost use Rattle.executions.specs.Ready.{IsReady, IsAfter};
 ghost use Rattle.executions.specs.Rows.{Acts};
@@ -40,6 +41,7 @@ impl<R: Rng + Drop> State<R> {
         requires held { next.target < length (tables_of project.now) }
         requires member { next.id < length (blocks_at next.target project.now) }
         requires own { laws.is_own control ≡ false }
+        requires no_clone { is_clone control ≡ false }
         requires fits { (b : CachedBlock) → slice_get (cached_blocks (sheet_at next.target project.now)) next.id ≡ Some b → control_fits control (kind b.op) Fresh ≡ true }
         ensures ok { IfOk result (λ report. Acts R.stream project.now slot next.id late control self.old (λ o. o ≡ Goes (record { world = seen R.stream project.now self.new; report = report }))) }
         ensures after { IfOk result (λ report. IsAfter project.now slot report self.new) }
@@ -55,7 +57,7 @@ impl<R: Rng + Drop> State<R> {
             Control::Start { hats, wait } => {
                 self.start_hats(alloc, project, slot, next, hats.get(), wait)
             }
-            Control::Clone { .. } => Err(Stop::NoMemory),
+            Control::Clone { .. } => unreachable!(),
             Control::Next => unreachable!(),
             Control::Branch { .. } => unreachable!(),
             Control::Yield => unreachable!(),

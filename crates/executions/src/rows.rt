@@ -8,7 +8,7 @@ ghost use Rattle.script_machine.specs.Keeping.{control_fits};
 ghost use Rattle.script_machine.specs.Laws.{is_own};
 ghost use Rattle.script_machine.specs.declared.threads.Context.TheVariants.{Fresh};
 ghost use Rattle.control_blocks.specs.Afresh.{was_afresh};
-ghost use Rattle.executions.specs.Built.{is_built};
+ghost use Rattle.executions.specs.Built.{is_built_group, makes_no_clone, is_clone};
 ghost use Rattle.executions.specs.Rows.{RowGoes, RowStops};
 
 use crate::state::State;
@@ -71,10 +71,12 @@ impl<R: Rng + Drop> State<R> {
         thread: Serial,
         context: Context,
     ) -> Result<(Control, Context), Stop>
-        requires { group block.now.op ≡ group_of.Control }
+        requires group { group block.now.op ≡ group_of.Control }
+        requires no_clone { makes_no_clone block.now.op ≡ true }
         ensures ok { IfOk result (λ r. RowGoes R.stream project.now block.now args.entry.now here thread context self.old r.1 self.new r.0) }
         ensures fits { IfOk result (λ r. control_fits r.0 (kind block.now.op) r.1 ≡ true) }
         ensures own { IfOk result (λ r. is_own r.0 ≡ false → r.1 ≡ Fresh) }
+        ensures no_clone { IfOk result (λ r. is_clone r.0 ≡ false) }
         ensures afresh { IfOk result (λ r. is_own r.0 ≡ false → was_afresh (kind block.now.op) context ≡ true) }
         ensures kept { IfOk result (λ r. (self.new.threads ≡ self.old.threads) × (self.new.next_thread ≡ self.old.next_thread)) }
         ensures stop { RowStops R.stream project.now block.now args.entry.now here thread context self.old result }
@@ -111,10 +113,12 @@ impl<R: Rng + Drop> State<R> {
         thread: Serial,
         context: Context,
     ) -> Result<(Control, Context), Stop>
-        requires { is_built block.now.op ≡ true }
+        requires group { is_built_group (group block.now.op) ≡ true }
+        requires no_clone { makes_no_clone block.now.op ≡ true }
         ensures ok { IfOk result (λ r. RowGoes R.stream project.now block.now args.entry.now here thread context self.old r.1 self.new r.0) }
         ensures fits { IfOk result (λ r. control_fits r.0 (kind block.now.op) r.1 ≡ true) }
         ensures own { IfOk result (λ r. is_own r.0 ≡ false → r.1 ≡ Fresh) }
+        ensures no_clone { IfOk result (λ r. is_clone r.0 ≡ false) }
         ensures afresh { IfOk result (λ r. is_own r.0 ≡ false → was_afresh (kind block.now.op) context ≡ true) }
         ensures kept { IfOk result (λ r. (self.new.threads ≡ self.old.threads) × (self.new.next_thread ≡ self.old.next_thread)) }
         ensures stop { RowStops R.stream project.now block.now args.entry.now here thread context self.old result }

@@ -81,9 +81,7 @@ impl<R: Rng + Drop> State<R> {
         match self.apply(alloc, project, block, args, next.here, next.serial, context) {
             Ok((control, context)) => {
                 if is_own(&control) {
-                    self.act_own(
-                        project, which, next.target, next.id, control, context, late,
-                    )
+                    self.act_own(project, which, next.target, next.id, control, context, late)
                 } else {
                     self.act_on_others(alloc, project, slot, which, next, control, late)
                 }

@@ -1,5 +1,5 @@
 -- Two changes of the thread are one.
-use Rattle.std.proofs.Common.{sym, ap, ◌∙◌}
+use Rattle.std.proofs.Common.{ap, ◌∙◌}
 use Rattle.script_machine.specs.Tasks.{status_after}
 use Rattle.thread_frames.specs.Threads.{on_levels, with_status}
 use Rattle.executions.proofs.Placing.{on_twice}
