@@ -1,6 +1,6 @@
 -- The running thread goes on where others are started or ended beside it.
-use Rattle.std.proofs.Common.{◌≡◌, ℕ, ◌+◌, ◌<◌, ◌^◌, Bool, true, false, not, List, [], ◌∷◌, ◌++◌, length, Option, Some, None, Result, Ok, Err, refl, sym, ap, ◌∙◌, subst, arith}
-use Rattle.std.specs.Prelude.{IfOk, slice_get, filter, ◌==◌, ◌&&◌, All}
+use Rattle.std.proofs.Common.{◌≡◌, ℕ, ◌<◌, ◌^◌, Bool, true, false, not, List, [], ◌∷◌, ◌++◌, length, Option, Some, None, Result, Ok, Err, refl, sym, ap, ◌∙◌, subst, arith}
+use Rattle.std.specs.Prelude.{IfOk, filter, ◌==◌, ◌&&◌}
 use Rattle.std.specs.Option.{option_map}
 use Rattle.std.proofs.lemmas.Option.{same_Some}
 use Rattle.rand_core.specs.Stream.{Stream}
@@ -32,7 +32,6 @@ use Rattle.project_file.proofs.Unrolling.{script-at}
 use Rattle.project_check.specs.declared.project.Project.{Project}
 use Rattle.project_check.specs.Loaded.{program_of, tables_of, ranks_at}
 use Rattle.scenes.specs.Scenes.{scene_in}
-use Rattle.thread_frames.specs.declared.level.Level.{Level}
 use Rattle.thread_frames.specs.Levels.{top_block, without_top, warp_flag}
 use Rattle.thread_frames.specs.Reading.{beneath, task}
 use Rattle.thread_frames.specs.Fit.{Fits}
@@ -43,7 +42,7 @@ use Rattle.hats.proofs.Headed.{starts-headed}
 use Rattle.executions.specs.declared.state.State.{State}
 use Rattle.executions.specs.declared.stepping.Next.{Next}
 use Rattle.executions.specs.Seen.{sheets, seen_threads, seen}
-use Rattle.executions.specs.Ready.{AllFit, IsKept, IsReady, IsAfter}
+use Rattle.executions.specs.Ready.{IsKept, IsReady, IsAfter}
 use Rattle.executions.specs.Moves.{IsAtBlock, Moved, MovesOn, with_levels}
 use Rattle.executions.specs.Nexts.{next_by, next_of}
 use Rattle.executions.specs.Rows.{Acts}
@@ -75,6 +74,35 @@ module _ {R : Type 0} (p : Project) (i : ℕ) (w : State R) (ready : IsReady p i
   pub next_at : (which : Which) → which ≡ place i w.threads → next_of (at_place which w.threads) ≡ Some n → IsNext ready.thread n
   next_at which at next = next_is (ap (λ z. next_of (at_place z w.threads)) (sym at) ∙ next)
 
+-- Hats that are started are begun in the world
+
+module _ {R : Type 0} (p : Project) (w : State R) where
+  abbrev hats_of : Filter → List Pair
+  hats_of hats = starts (program_of p) hats w.targets
+
+  abbrev crowd : Crowd Thread
+  crowd = record { threads = w.threads; next = w.next_thread; serials = [] }
+
+module _ {R : Type 0} (stream : R → Stream) (p : Project) (i : ℕ) (w : State R) (ready : IsReady p i w) (hats : Filter) where
+  hats_seen : seen_out (seen_crowd (task (sheets p))) (start_all frames (Some i) (hats_of p w hats) (crowd p w)) ≡ start_all tasks (Some i) (hats_of p w hats) (seen_crowd (task (sheets p)) (crowd p w))
+  hats_seen =
+      starts_seen (task (sheets p)) (IsHeadOf p w.targets) frames tasks (sees p w.targets) (Some i) (hats_of p w hats) (crowd p w) (starts-headed p w.targets hats) (all_counted p w.threads ready.kept.threads)
+
+  module _ (ts : Places Thread) (count : ℕ) (serials : List ℕ) (started : start_all frames (Some i) (hats_of p w hats) (crowd p w) ≡ Goes (record { threads = ts; next = count; serials = serials })) where
+    pub begun_runs : running i ts ≡ Some ready.thread
+    begun_runs = subst (λ (o : Outcome (Crowd Thread)). IfGoes o (λ c. running i c.threads ≡ Some ready.thread)) started (starts_run frames i ready.thread (hats_of p w hats) (crowd p w) ready.found)
+
+    pub begins : begin (program_of p) (Some i) hats (seen stream p w) ≡ Goes (record { world = seen stream p (record w { threads = ts; next_thread = count }); serials = serials })
+    begins = ap (λ o. then_do o (λ c. Goes (begun (seen stream p w) c))) (sym hats_seen ∙ ap (seen_out (seen_crowd (task (sheets p)))) started)
+
+  pub begin_stops : (T U : Type 0) (stop : Stop) → StopIs {T = T} (Err stop) (start_all frames (Some i) (hats_of p w hats) (crowd p w)) → StopIs {T = U} (Err stop) (begin (program_of p) (Some i) hats (seen stream p w))
+  begin_stops T U stop h =
+      stop-then U U stop (start_all tasks (Some i) (hats_of p w hats) (seen_crowd (task (sheets p)) (crowd p w))) (λ c. Goes (begun (seen stream p w) c))
+      (stop-same U U stop (seen_out (seen_crowd (task (sheets p))) (start_all frames (Some i) (hats_of p w hats) (crowd p w))) (start_all tasks (Some i) (hats_of p w hats) (seen_crowd (task (sheets p)) (crowd p w))) (sym hats_seen)
+      (seen_stop T U stop (seen_crowd (task (sheets p))) (start_all frames (Some i) (hats_of p w hats) (crowd p w)) h))
+
+-- Beside the running thread
+
 module _ {R : Type 0} (stream : R → Stream) (p : Project) (i : ℕ) (w : State R) (ready : IsReady p i w) (n : Next) (is : IsNext ready.thread n) where
   abbrev t : Thread
   t = ready.thread
@@ -85,11 +113,11 @@ module _ {R : Type 0} (stream : R → Stream) (p : Project) (i : ℕ) (w : State
   abbrev th : TopHolds sheet t.levels n.id
   th = holds_by sheet t.levels n.id ready.ready is.holds
 
-  abbrev r : Script → List Item
+  abbrev pub r : Script → List Item
   r rest = dos rest ++ beneath sheet (without_top t.levels)
 
   -- what a control does with the running thread and with all others
-  acts : (late : Bool) (c : Control) (P : Outcome (Moment (World Task)) → Type 0)
+  pub acts : (late : Bool) (c : Control) (P : Outcome (Moment (World Task)) → Type 0)
       → ((s : Statement) (rest : Script) → script sheet (Some n.id) ≡ Then s rest → P (act (program_of p) i late (task (sheets p) t) s (r rest) c Fresh (seen stream p w)))
       → Acts stream p i n.id late c w P
   acts late c P h u s rest found e =
@@ -196,51 +224,36 @@ module _ {R : Type 0} (stream : R → Stream) (p : Project) (i : ℕ) (w : State
 
   -- Hats that are started
 
-  abbrev hats_of : Filter → List Pair
-  hats_of hats = starts (program_of p) hats w.targets
-
-  abbrev crowd : Crowd Thread
-  crowd = record { threads = w.threads; next = w.next_thread; serials = [] }
-
-  hats_seen : (hats : Filter) → seen_out (seen_crowd (task (sheets p))) (start_all frames (Some i) (hats_of hats) crowd) ≡ start_all tasks (Some i) (hats_of hats) (seen_crowd (task (sheets p)) crowd)
-  hats_seen hats =
-      starts_seen (task (sheets p)) (IsHeadOf p w.targets) frames tasks (sees p w.targets) (Some i) (hats_of hats) crowd (starts-headed p w.targets hats) (all_counted p w.threads ready.kept.threads)
-
-  module _ (hats : Filter) (wait : Bool) (ts : Places Thread) (count : ℕ) (serials : List ℕ) (started : start_all frames (Some i) (hats_of hats) crowd ≡ Goes (record { threads = ts; next = count; serials = serials })) where
+  module _ (hats : Filter) (wait : Bool) (ts : Places Thread) (count : ℕ) (serials : List ℕ) (started : start_all frames (Some i) (hats_of p w hats) (crowd p w) ≡ Goes (record { threads = ts; next = count; serials = serials })) where
     abbrev begun_state : State R
     begun_state = record w { threads = ts; next_thread = count }
 
     abbrev goes_to : Statement → List Item → Bool → Position
     goes_to s rest warp = after_start wait serials s warp rest
 
-    begun_runs : running i ts ≡ Some t
-    begun_runs = subst (λ (o : Outcome (Crowd Thread)). IfGoes o (λ c. running i c.threads ≡ Some t)) started (starts_run frames i t (hats_of hats) crowd ready.found)
-
-    begins : begin (program_of p) (Some i) hats (seen stream p w) ≡ Goes (record { world = seen stream p begun_state; serials = serials })
-    begins = ap (λ o. then_do o (λ c. Goes (begun (seen stream p w) c))) (sym (hats_seen hats) ∙ ap (seen_out (seen_crowd (task (sheets p)))) started)
+    still_there : running i ts ≡ Some t
+    still_there = begun_runs stream p i w ready hats ts count serials started
 
     module _ (which : Which) (here : which ≡ place i ts) where
       pub begun_at : IsAtBlock p which ts n.target n.id
-      begun_at = at_block begun_state begun_runs which here
+      begun_at = at_block begun_state still_there which here
 
       module _ (last : Places Thread) (report : Report) (m : MovesOn p which n.target n.id goes_to ts last report) where
         pub start_goes : (late : Bool) → Acts stream p i n.id late (control.Start hats wait) w (λ o. o ≡ Goes (record { world = seen stream p (record begun_state { threads = last }); report = report }))
         start_goes late =
             acts late (control.Start hats wait) (λ o. o ≡ Goes (record { world = seen stream p (record begun_state { threads = last }); report = report }))
-            (λ s rest e. ap (λ o. then_do o (λ b. Goes (moved i (after_start wait b.serials s (warp_flag t.levels) (r rest)) b.world))) begins
-            ∙ ap Goes (moves begun_state begun_runs which here goes_to last report m s rest e))
+            (λ s rest e. ap (λ o. then_do o (λ b. Goes (moved i (after_start wait b.serials s (warp_flag t.levels) (r rest)) b.world))) (begins stream p i w ready hats ts count serials started)
+            ∙ ap Goes (moves begun_state still_there which here goes_to last report m s rest e))
 
         pub start_after : n.target < length (tables_of p) → (Everyone (Fits (sheets p)) w.threads → Everyone (Fits (sheets p)) ts) → count < 2 ^ 62 → IsAfter p i report (record begun_state { threads = last })
         start_after there fits few =
-            still_after begun_state begun_runs which here goes_to last report m there (record { threads = record { all = fits ready.kept.threads.all }; few = few })
+            still_after begun_state still_there which here goes_to last report m there (record { threads = record { all = fits ready.kept.threads.all }; few = few })
 
-  pub start_stops : (T U : Type 0) (stop : Stop) (hats : Filter) (wait : Bool) → StopIs {T = T} (Err stop) (start_all frames (Some i) (hats_of hats) crowd) → (late : Bool) → Acts stream p i n.id late (control.Start hats wait) w (StopIs {T = U} (Err stop))
+  pub start_stops : (T U : Type 0) (stop : Stop) (hats : Filter) (wait : Bool) → StopIs {T = T} (Err stop) (start_all frames (Some i) (hats_of p w hats) (crowd p w)) → (late : Bool) → Acts stream p i n.id late (control.Start hats wait) w (StopIs {T = U} (Err stop))
   start_stops T U stop hats wait h late =
       acts late (control.Start hats wait) (StopIs {T = U} (Err stop))
       (λ s rest e. stop-then U U stop (begin (program_of p) (Some i) hats (seen stream p w)) (λ b. Goes (moved i (after_start wait b.serials s (warp_flag t.levels) (r rest)) b.world))
-      (stop-then U U stop (start_all tasks (Some i) (hats_of hats) (seen_crowd (task (sheets p)) crowd)) (λ c. Goes (begun (seen stream p w) c))
-      (stop-same U U stop (seen_out (seen_crowd (task (sheets p))) (start_all frames (Some i) (hats_of hats) crowd)) (start_all tasks (Some i) (hats_of hats) (seen_crowd (task (sheets p)) crowd)) (sym (hats_seen hats))
-      (seen_stop T U stop (seen_crowd (task (sheets p))) (start_all frames (Some i) (hats_of hats) crowd) h))))
+      (begin_stops stream p i w ready hats T U stop h))
 
   -- A clone that is deleted
 

@@ -12,3 +12,4 @@ pub mod Kept
 pub mod Ranks
 pub mod Sights
 pub mod Beside
+pub mod Clones

@@ -1,5 +1,5 @@
 -- What starting and ending do to threads they do to what is seen of them.
-use Rattle.std.proofs.Common.{◌≡◌, ℕ, zero, suc, ◌+◌, Bool, true, false, not, ◌&&◌, List, [], ◌∷◌, ◌++◌, length, map, cond, position, Option, Some, None, refl, sym, ap, ◌∙◌, arith}
+use Rattle.std.proofs.Common.{◌≡◌, ℕ, suc, ◌+◌, Bool, true, false, not, ◌&&◌, List, [], ◌∷◌, ◌++◌, length, map, cond, position, Option, Some, None, refl, sym, ap, ◌∙◌, arith}
 use Rattle.std.specs.Prelude.{slice_get, slice_set, sum_by, nat_lt, IfSome, if◌then◌else◌, ◌==◌, ◌||◌}
 use Rattle.std.specs.List.{All, list_any, position_or_len}
 use Rattle.std.specs.Option.{option_map}
@@ -14,7 +14,7 @@ use Rattle.script_machine.specs.Outcome.{Outcome, Goes, Full, TooLong, Spent, th
 use Rattle.script_machine.specs.Script.{op_of}
 use Rattle.script_machine.specs.Program.{hat_block}
 use Rattle.script_machine.specs.declared.threads.Which.{Which}
-use Rattle.script_machine.specs.declared.threads.Which.TheVariants.{Slot, Detached}
+use Rattle.script_machine.specs.declared.threads.Which.TheVariants.{Slot}
 use Rattle.script_machine.specs.Places.{Places, put, put_some, on_place, sum_some, shown_by, Everyone}
 use Rattle.script_machine.specs.Starting.{Handle, Crowd, Pair, restarts, open_levels, runs_at, replaced, replaced_at, appended, placed, joined, is_of, is_alive_of, new_thread, ignored_or_appended, start_by, start_one, start_all, is_spared, finished_from, finished_of}
 use Rattle.executions.proofs.Placing.{put_seen, everyone_at, everyone_put}

@@ -1,10 +1,8 @@
 -- The blocks of every target of a project have ranks, so that a block is the first statement of its script.
-use Rattle.std.proofs.Common.{◌≡◌, ℕ, zero, suc, ◌<◌, List, [], ◌∷◌, length, map, Option, Some, None, refl, sym, ap, ◌∙◌, subst, arith}
+use Rattle.std.proofs.Common.{◌≡◌, ℕ, zero, suc, ◌<◌, List, [], ◌∷◌, length, Some, None, refl, sym, ap, ◌∙◌, subst, arith}
 use Rattle.std.specs.Prelude.{slice_get, unwrap_or, option_map}
-use Rattle.std.proofs.lemmas.List.{length-map}
 use Rattle.std.proofs.lemmas.Option.{slice_get-map}
-use Rattle.script_machine.specs.Script.{Script, End}
-use Rattle.project_file.specs.declared.blocks.Block.{Block}
+use Rattle.script_machine.specs.Script.{End}
 use Rattle.project_file.specs.Linked.{AreRanks}
 use Rattle.project_file.specs.Trees.{Sheet, block_script, expression, script_within, script}
 use Rattle.linked_blocks.specs.Kept.{Kept}

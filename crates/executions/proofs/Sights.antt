@@ -1,18 +1,17 @@
 -- The threads of levels are seen as tasks, where they start and where they end.
-use Rattle.std.proofs.Common.{◌≡◌, ℕ, ◌+◌, ◌<◌, Bool, true, false, List, [], ◌∷◌, ◌++◌, length, map, Option, Some, None, Err, refl, sym, ap, ◌∙◌, subst, arith}
+use Rattle.std.proofs.Common.{◌≡◌, ℕ, ◌+◌, false, List, [], ◌∷◌, length, Option, Some, None, Err, refl, sym, ap, ◌∙◌}
 use Rattle.std.specs.Prelude.{slice_get, All, IfSome}
-use Rattle.std.specs.Option.{option_map}
 use Rattle.std.proofs.lemmas.List.{append-nil}
 use Rattle.std.proofs.lemmas.List.Elements.{All-nil, All-cons, All-head, All-tail}
 use Rattle.script_words.specs.declared.stops.Stop.{Stop}
 use Rattle.script_words.specs.declared.stops.Stop.TheVariants as stops
-use Rattle.script_machine.specs.Outcome.{Outcome, Goes, StopIs}
-use Rattle.script_machine.specs.Script.{Script, End, Then, Statement, place_of}
-use Rattle.script_machine.specs.Program.{Head, hat_block}
-use Rattle.script_machine.specs.Pending.{Item, Do, dos, markers}
-use Rattle.script_machine.specs.Places.{Places, shown_by, Everyone}
+use Rattle.script_machine.specs.Outcome.{Outcome, StopIs}
+use Rattle.script_machine.specs.Script.{Script, End, Then, Statement}
+use Rattle.script_machine.specs.Program.{hat_block}
+use Rattle.script_machine.specs.Pending.{Do, dos, markers}
+use Rattle.script_machine.specs.Places.{Places, Everyone}
 use Rattle.script_machine.specs.Starting.{Pair}
-use Rattle.script_machine.specs.Tasks.{Task, depth, tasks}
+use Rattle.script_machine.specs.Tasks.{depth, tasks}
 use Rattle.script_machine.specs.declared.instance.Instance.{Instance}
 use Rattle.script_machine.specs.declared.threads.Status.TheVariants.{Running}
 use Rattle.project_file.specs.declared.blocks.Block.{Block}
@@ -25,9 +24,9 @@ use Rattle.thread_frames.specs.Reading.{first_item, block_items, items_at, pendi
 use Rattle.thread_frames.specs.Threads.{Thread, begins_with, frames, finish}
 use Rattle.thread_frames.specs.Fit.{Fits}
 use Rattle.project_check.specs.declared.project.Project.{Project}
-use Rattle.project_check.specs.Loaded.{ranks_at, sheet_at}
+use Rattle.project_check.specs.Loaded.{ranks_at}
 use Rattle.hats.specs.Heads.{target_of, IsHeadOf}
-use Rattle.executions.specs.Seen.{sheets, seen_threads}
+use Rattle.executions.specs.Seen.{sheets}
 use Rattle.executions.specs.Ready.{AllFit}
 use Rattle.executions.proofs.Counted.{depth_is}
 use Rattle.executions.proofs.Natural.{Sees, seen_out}

@@ -2,6 +2,7 @@
 #![tactic(auto)]
 
 mod acting;
+mod cloning;
 mod moving;
 mod others;
 mod rows;
