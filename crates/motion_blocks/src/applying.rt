@@ -99,9 +99,10 @@ fn moved<R: Rng + Drop>(
 
 /// Executes a block of motion of an instance: the row of its opcode (scratch-vm, blocks/scratch3_motion.js). `context` is
 /// what the block keeps from one execution to the next. It gives what the thread does, which is never a control of other
-/// threads, and whether a redraw is requested. On the stage a block goes on and does nothing; a block of another group goes
-/// on and keeps nothing. `Stop` is `Counter` of the words exactly where a random place or direction is asked for and
-/// 2^62 − 1 words were drawn; the only other one is `NoMemory`.
+/// threads, and whether a redraw is requested. On the stage a block goes on and does nothing. A block of another group
+/// changes nothing, goes on and keeps nothing; a redraw is requested where the instance is visible. `Stop` is `Counter` of
+/// the words exactly where a random place, of two words, or a random direction, of one, takes more than are left of
+/// 2^62 − 1; the only other one is `NoMemory`.
 pub fn apply<R: Rng + Drop>(
     alloc: Global,
     op: Opcode,

@@ -11,3 +11,6 @@ mod steps;
 mod turns;
 
 pub use applying::apply;
+
+#[cfg(test)]
+mod tests;
