@@ -1,0 +1,3 @@
+pub mod Glides
+pub mod Instances
+pub mod Stopping

@@ -1,0 +1,24 @@
+-- The parts of a run that a block of motion may change, and what a row leaves; private functions alone cite the latter.
+use Rattle.std.specs.Prelude.{List, Bool}
+use Rattle.rand_core.specs.Stream.{Stream}
+use Rattle.script_words.specs.declared.counting.Counted.{Counted}
+use Rattle.script_machine.specs.declared.instance.Instance.{Instance}
+use Rattle.script_machine.specs.declared.threads.Context.{Context}
+use Rattle.script_machine.specs.declared.threads.Context.TheVariants.{Fresh}
+use Rattle.script_machine.specs.declared.threads.Control.{Control}
+use Rattle.script_machine.specs.declared.threads.Control.TheVariants.{Next}
+use Rattle.script_machine.specs.Words.{Words, seen_words}
+use Rattle.script_machine.specs.Parts.{MotionParts}
+use Rattle.script_machine.specs.View.{Row}
+
+-- the parts of the world that a block of motion may change, as the code holds them
+abbrev pub parts_of : {R : Type 0} → (R → Stream) → List Instance → Counted R → MotionParts
+parts_of stream targets words = record { targets = targets; words = seen_words stream words }
+
+-- these instances and words are left, with what is kept and what the thread does
+abbrev pub leaves : List Instance → Words → Context → Control → Bool → Row MotionParts
+leaves targets words context control redraw = record { parts = record { targets = targets; words = words }; context = context; control = control; redraw = redraw }
+
+-- the same, the thread goes on, and nothing is kept
+abbrev pub goes_on : List Instance → Words → Bool → Row MotionParts
+goes_on targets words redraw = leaves targets words Fresh Next redraw
