@@ -2,7 +2,6 @@ pub mod Placing
 pub mod Lent
 pub mod Worlds
 pub mod Stops
-pub mod RowsOf
 pub mod Firsts
 pub mod Counted
 pub mod Taking

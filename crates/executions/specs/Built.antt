@@ -13,7 +13,7 @@ use Rattle.project_check.specs.declared.project.Project.{Project}
 use Rattle.executions.specs.Seen.{sheets}
 
 abbrev pub is_built_group : Group → Bool
-is_built_group Motion = false
+is_built_group Motion = true
 is_built_group Looks = false
 is_built_group Data = true
 is_built_group Control = true

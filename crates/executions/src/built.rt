@@ -14,7 +14,7 @@ fn is_built_group(group: Group) -> bool
     ensures { result ≡ is_built_group group }
 {
     match group {
-        Group::Motion => false,
+        Group::Motion => true,
         Group::Looks => false,
         Group::Data => true,
         Group::Control => true,
@@ -50,8 +50,8 @@ fn is_built_in(project: &Project, target: TargetId) -> bool
     true
 }
 
-/// Whether all blocks of a project are executed so far, loose ones included: none of them is of motion, of looks or of
-/// sound, or makes a clone.
+/// Whether all blocks of a project are executed so far, loose ones included: none of them is of looks or of sound, or
+/// makes a clone.
 pub fn is_built(project: &Project) -> bool
     ensures built { result ≡ true → IsBuilt project.now }
     ensures other { result ≡ false → IsBuilt project.now → ⊥ }

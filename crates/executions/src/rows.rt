@@ -60,6 +60,43 @@ impl<R: Rng + Drop> State<R> {
         }
     }
 
+    // The row of a block of motion.
+    fn apply_motion(
+        &mut self,
+        alloc: Global,
+        project: &Project,
+        block: &CachedBlock,
+        args: &Args<'_>,
+        here: InstanceId,
+        context: Context,
+    ) -> Result<(Control, Context), Stop>
+        requires { group block.now.op ≡ group_of.Motion }
+        ensures ok { IfOk result (λ r. (thread : ℕ) → RowGoes R.stream project.now block.now args.entry.now here thread context self.old r.1 self.new r.0) }
+        ensures fits { IfOk result (λ r. control_fits r.0 (kind block.now.op) r.1 ≡ true) }
+        ensures own { IfOk result (λ r. is_own r.0 ≡ true) }
+        ensures kept { IfOk result (λ r. (self.new.threads ≡ self.old.threads) × (self.new.next_thread ≡ self.old.next_thread)) }
+        ensures stop { (thread : ℕ) → RowStops R.stream project.now block.now args.entry.now here thread context self.old result }
+    {
+        let mut kept = context;
+        match motion_blocks::apply(
+            alloc,
+            block.op,
+            args,
+            here,
+            project.records(),
+            &mut self.targets,
+            &self.devices,
+            &mut self.words,
+            &mut kept,
+        ) {
+            Ok((control, redraw)) => {
+                self.redraw = either(self.redraw, redraw);
+                Ok((control, kept))
+            }
+            Err(stop) => Err(stop),
+        }
+    }
+
     // The row of a block of control.
     fn apply_control(
         &mut self,
@@ -124,7 +161,7 @@ impl<R: Rng + Drop> State<R> {
         ensures stop { RowStops R.stream project.now block.now args.entry.now here thread context self.old result }
     {
         match group(block.op) {
-            Group::Motion => unreachable!(),
+            Group::Motion => self.apply_motion(alloc, project, block, args, here, context),
             Group::Looks => unreachable!(),
             Group::Data => self.apply_data(project, block, args, here, context),
             Group::Control => {
