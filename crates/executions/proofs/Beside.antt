@@ -1,5 +1,5 @@
 -- The running thread goes on where others are started or ended beside it.
-use Rattle.std.proofs.Common.{◌≡◌, ℕ, ◌<◌, ◌^◌, Bool, true, false, not, List, [], ◌∷◌, ◌++◌, length, Option, Some, None, Result, Ok, Err, refl, sym, ap, ◌∙◌, subst, arith}
+use Rattle.std.proofs.Common.{◌≡◌, ◌≢◌, ℕ, ◌<◌, ◌^◌, Bool, true, false, not, List, [], ◌∷◌, ◌++◌, length, Option, Some, None, Result, Ok, Err, refl, sym, ap, ◌∙◌, subst, arith}
 use Rattle.std.specs.Prelude.{IfOk, filter, ◌==◌, ◌&&◌}
 use Rattle.std.specs.Option.{option_map}
 use Rattle.std.proofs.lemmas.Option.{same_Some}
@@ -9,9 +9,10 @@ use Rattle.opcode_table.specs.declared.kinds.Kind.{Kind}
 use Rattle.opcode_table.specs.declared.kinds.Kind.TheVariants.{Choice, Endless, Counted, Calls, Waits, Glides, Starts, Asks, Speaks, Plain}
 use Rattle.script_machine.specs.Keeping.{is_starts, may_wait, top_fits}
 use Rattle.script_machine.specs.Lists.{first_removed}
-use Rattle.script_machine.specs.Outcome.{Outcome, Goes, then_do, IfGoes, StopIs}
+use Rattle.script_machine.specs.Outcome.{Outcome, Goes, then_do, StopIs}
 use Rattle.script_machine.specs.Script.{Script, Then, Statement}
 use Rattle.script_machine.specs.Stores.{Devices, Variables}
+use Rattle.script_machine.specs.declared.variables.Store.{Store}
 use Rattle.script_machine.specs.declared.instance.Instance.{Instance}
 use Rattle.script_machine.specs.declared.threads.Context.TheVariants.{Fresh, Started}
 use Rattle.script_machine.specs.declared.threads.Control.{Control}
@@ -22,16 +23,17 @@ use Rattle.script_machine.specs.declared.threads.Report.TheVariants.{Yielded, En
 use Rattle.script_machine.specs.declared.threads.Which.{Which}
 use Rattle.script_machine.specs.Pending.{Item, Position, dos, settle, gone, kept}
 use Rattle.script_machine.specs.Places.{Places, at_place, put, put_some, on_place, place, running, on_running, Everyone}
-use Rattle.script_machine.specs.Starting.{Pair, Crowd, starts, start_all, finished_of}
+use Rattle.script_machine.specs.Starting.{start_all, finished_of}
 use Rattle.script_machine.specs.Step.{Moment, moved, act, others_stopped, after_start, clone_deleted, deleted_if}
 use Rattle.script_machine.specs.Stopping.{scene_of, with_scene, questions_dropped, disposed, without_timers, is_clone}
-use Rattle.script_machine.specs.Tasks.{Task, tasks, at_position, begun, begin}
+use Rattle.script_machine.specs.Tasks.{Task, tasks, at_position, begin}
 use Rattle.script_machine.specs.World.{World}
 use Rattle.project_file.specs.Trees.{Sheet, target_of_link, script, statement}
 use Rattle.project_file.proofs.Unrolling.{script-at}
 use Rattle.project_check.specs.declared.project.Project.{Project}
 use Rattle.project_check.specs.Loaded.{program_of, tables_of, ranks_at}
 use Rattle.scenes.specs.Scenes.{scene_in}
+use Rattle.targets.specs.Live.{IsLive, IsSameCast}
 use Rattle.thread_frames.specs.Levels.{top_block, without_top, warp_flag}
 use Rattle.thread_frames.specs.Reading.{beneath, task}
 use Rattle.thread_frames.specs.Fit.{Fits}
@@ -42,15 +44,20 @@ use Rattle.hats.proofs.Headed.{starts-headed}
 use Rattle.executions.specs.declared.state.State.{State}
 use Rattle.executions.specs.declared.stepping.Next.{Next}
 use Rattle.executions.specs.Seen.{sheets, seen_threads, seen}
-use Rattle.executions.specs.Ready.{IsKept, IsReady, IsAfter}
+use Rattle.executions.specs.Ready.{ArePeopled, HasNoneFrom, IsOfLive, IsKept, IsReady, IsAfter}
 use Rattle.executions.specs.Moves.{IsAtBlock, Moved, MovesOn, with_levels}
 use Rattle.executions.specs.Nexts.{next_by, next_of}
 use Rattle.executions.specs.Rows.{Acts}
-use Rattle.executions.proofs.Kept.{starts_run, ended_keeps, ended_everyone}
-use Rattle.executions.proofs.Natural.{seen_out, seen_crowd, starts_seen, ended_seen}
+use Rattle.executions.proofs.Begun.{crowd, hats_of, begun_runs, begins, begin_stops, begun_kept}
+use Rattle.executions.proofs.Keeping.{kept_cast, kept_threads}
+use Rattle.executions.proofs.Kept.{ended_keeps, ended_everyone}
+use Rattle.executions.proofs.Living.{done_living, gone_living}
+use Rattle.executions.proofs.Natural.{ended_seen}
+use Rattle.executions.proofs.People.{none_first_removed, people_cast, people_removed}
+use Rattle.executions.proofs.Crew.{is_live-without}
 use Rattle.executions.proofs.Placing.{put_seen, at_seen, place_seen, everyone_put}
 use Rattle.executions.proofs.Ranks.{ranks_here}
-use Rattle.executions.proofs.Sights.{sees, all_counted, finish_fits, seen_stop}
+use Rattle.executions.proofs.Sights.{sees, finish_fits}
 use Rattle.executions.proofs.Stops.{stop-then, stop-same}
 use Rattle.executions.proofs.Taking.{holds_by}
 use Rattle.executions.proofs.Worlds.{moved_is, after}
@@ -84,11 +91,11 @@ module _ {R : Type 0} (stream : R → Stream) (p : Project) (i : ℕ) (w : State
   abbrev th : TopHolds sheet t.levels n.id
   th = holds_by sheet t.levels n.id ready.ready is.holds
 
-  abbrev r : Script → List Item
+  abbrev pub r : Script → List Item
   r rest = dos rest ++ beneath sheet (without_top t.levels)
 
   -- what a control does with the running thread and with all others
-  acts : (late : Bool) (c : Control) (P : Outcome (Moment (World Task)) → Type 0)
+  pub acts : (late : Bool) (c : Control) (P : Outcome (Moment (World Task)) → Type 0)
       → ((s : Statement) (rest : Script) → script sheet (Some n.id) ≡ Then s rest → P (act (program_of p) i late (task (sheets p) t) s (r rest) c Fresh (seen stream p w)))
       → Acts stream p i n.id late c w P
   acts late c P h u s rest found e =
@@ -134,7 +141,7 @@ module _ {R : Type 0} (stream : R → Stream) (p : Project) (i : ℕ) (w : State
         moves = moved_is stream p i v ts t x moved_so.levels report stands found ts_is
 
         is_after : IsKept p v → IsAfter p i report (record v { threads = ts })
-        is_after kept = after p t x moved_so.levels report stands i v ts found ts_is kept
+        is_after kept = after p t x moved_so.levels report stands i v ts found ts_is ready.alive kept
 
       pub still_after : n.target < length (tables_of p) → IsKept p v → IsAfter p i report (record v { threads = ts })
       still_after there kept =
@@ -143,7 +150,7 @@ module _ {R : Type 0} (stream : R → Stream) (p : Project) (i : ℕ) (w : State
 
   -- Other scripts of the instance
 
-  module _ (which : Which) (at : which ≡ place i w.threads) (targets : List Instance) (devices : Devices) (mid : Places Thread) (ended : mid ≡ finished_of frames (Some which) n.here w.threads) where
+  module _ (which : Which) (at : which ≡ place i w.threads) (targets : List Instance) (devices : Devices) (cast : IsSameCast w.targets targets) (mid : Places Thread) (ended : mid ≡ finished_of frames (Some which) n.here w.threads) where
     abbrev stopped : State R
     stopped = record w { targets = targets; devices = devices; threads = mid }
 
@@ -157,11 +164,14 @@ module _ {R : Type 0} (stream : R → Stream) (p : Project) (i : ℕ) (w : State
     pub stopped_at : IsAtBlock p which mid n.target n.id
     stopped_at = at_block stopped still_runs which place_is
 
+    shown_kept : IsKept p (record w { targets = targets; devices = devices })
+    shown_kept = kept_cast p w (record w { targets = targets; devices = devices }) refl refl refl refl ready.kept cast
+
     stopped_kept : IsKept p stopped
-    stopped_kept = record {
-      threads = record { all = subst (Everyone (Fits (sheets p))) (sym ended) (ended_everyone frames (Fits (sheets p)) (Some which) n.here w.threads (finish_fits p) ready.kept.threads.all) };
-      few = ready.kept.few;
-    }
+    stopped_kept =
+        kept_threads p (record w { targets = targets; devices = devices }) shown_kept mid
+        (subst (Everyone (Fits (sheets p))) (sym ended) (ended_everyone frames (Fits (sheets p)) (Some which) n.here w.threads (finish_fits p) shown_kept.threads.all))
+        (subst (Everyone (IsOfLive targets)) (sym ended) (ended_everyone frames (IsOfLive targets) (Some which) n.here w.threads (done_living targets) shown_kept.living))
 
     threads_stopped : finished_of tasks (Some (place i (seen_threads p w.threads))) t.of (seen_threads p w.threads) ≡ seen_threads p mid
     threads_stopped =
@@ -195,51 +205,37 @@ module _ {R : Type 0} (stream : R → Stream) (p : Project) (i : ℕ) (w : State
 
   -- Hats that are started
 
-  abbrev hats_of : Filter → List Pair
-  hats_of hats = starts (program_of p) hats w.targets
-
-  abbrev crowd : Crowd Thread
-  crowd = record { threads = w.threads; next = w.next_thread; serials = [] }
-
-  hats_seen : (hats : Filter) → seen_out (seen_crowd (task (sheets p))) (start_all frames (Some i) (hats_of hats) crowd) ≡ start_all tasks (Some i) (hats_of hats) (seen_crowd (task (sheets p)) crowd)
-  hats_seen hats =
-      starts_seen (task (sheets p)) (IsHeadOf p w.targets) frames tasks (sees p w.targets) (Some i) (hats_of hats) crowd (starts-headed p w.targets hats) (all_counted p w.threads ready.kept.threads)
-
-  module _ (hats : Filter) (wait : Bool) (ts : Places Thread) (count : ℕ) (serials : List ℕ) (started : start_all frames (Some i) (hats_of hats) crowd ≡ Goes (record { threads = ts; next = count; serials = serials })) where
+  module _ (hats : Filter) (wait : Bool) (ts : Places Thread) (count : ℕ) (serials : List ℕ) (started : start_all frames (Some i) (hats_of p w hats) (crowd w) ≡ Goes (record { threads = ts; next = count; serials = serials })) where
     abbrev begun_state : State R
     begun_state = record w { threads = ts; next_thread = count }
 
     abbrev goes_to : Statement → List Item → Bool → Position
     goes_to s rest warp = after_start wait serials s warp rest
 
-    begun_runs : running i ts ≡ Some t
-    begun_runs = subst (λ (o : Outcome (Crowd Thread)). IfGoes o (λ c. running i c.threads ≡ Some t)) started (starts_run frames i t (hats_of hats) crowd ready.found)
-
-    begins : begin (program_of p) (Some i) hats (seen stream p w) ≡ Goes (record { world = seen stream p begun_state; serials = serials })
-    begins = ap (λ o. then_do o (λ c. Goes (begun (seen stream p w) c))) (sym (hats_seen hats) ∙ ap (seen_out (seen_crowd (task (sheets p)))) started)
+    runs_on : running i ts ≡ Some t
+    runs_on = begun_runs stream p i w ready.kept.threads hats ts count serials started t ready.found
 
     module _ (which : Which) (here : which ≡ place i ts) where
       pub begun_at : IsAtBlock p which ts n.target n.id
-      begun_at = at_block begun_state begun_runs which here
+      begun_at = at_block begun_state runs_on which here
 
       module _ (last : Places Thread) (report : Report) (m : MovesOn p which n.target n.id goes_to ts last report) where
         pub start_goes : (late : Bool) → Acts stream p i n.id late (control.Start hats wait) w (λ o. o ≡ Goes (record { world = seen stream p (record begun_state { threads = last }); report = report }))
         start_goes late =
             acts late (control.Start hats wait) (λ o. o ≡ Goes (record { world = seen stream p (record begun_state { threads = last }); report = report }))
-            (λ s rest e. ap (λ o. then_do o (λ b. Goes (moved i (after_start wait b.serials s (warp_flag t.levels) (r rest)) b.world))) begins
-            ∙ ap Goes (moves begun_state begun_runs which here goes_to last report m s rest e))
+            (λ s rest e. ap (λ o. then_do o (λ b. Goes (moved i (after_start wait b.serials s (warp_flag t.levels) (r rest)) b.world))) (begins stream p i w ready.kept.threads hats ts count serials started)
+            ∙ ap Goes (moves begun_state runs_on which here goes_to last report m s rest e))
 
         pub start_after : n.target < length (tables_of p) → (Everyone (Fits (sheets p)) w.threads → Everyone (Fits (sheets p)) ts) → count < 2 ^ 62 → IsAfter p i report (record begun_state { threads = last })
         start_after there fits few =
-            still_after begun_state begun_runs which here goes_to last report m there (record { threads = record { all = fits ready.kept.threads.all }; few = few })
+            still_after begun_state runs_on which here goes_to last report m there
+            (begun_kept p w ready.kept (Some i) (hats_of p w hats) (starts-headed p w.targets hats) ts count serials started fits few)
 
-  pub start_stops : (T U : Type 0) (stop : Stop) (hats : Filter) (wait : Bool) → StopIs {T = T} (Err stop) (start_all frames (Some i) (hats_of hats) crowd) → (late : Bool) → Acts stream p i n.id late (control.Start hats wait) w (StopIs {T = U} (Err stop))
+  pub start_stops : (T U : Type 0) (stop : Stop) (hats : Filter) (wait : Bool) → StopIs {T = T} (Err stop) (start_all frames (Some i) (hats_of p w hats) (crowd w)) → (late : Bool) → Acts stream p i n.id late (control.Start hats wait) w (StopIs {T = U} (Err stop))
   start_stops T U stop hats wait h late =
       acts late (control.Start hats wait) (StopIs {T = U} (Err stop))
       (λ s rest e. stop-then U U stop (begin (program_of p) (Some i) hats (seen stream p w)) (λ b. Goes (moved i (after_start wait b.serials s (warp_flag t.levels) (r rest)) b.world))
-      (stop-then U U stop (start_all tasks (Some i) (hats_of hats) (seen_crowd (task (sheets p)) crowd)) (λ c. Goes (begun (seen stream p w) c))
-      (stop-same U U stop (seen_out (seen_crowd (task (sheets p))) (start_all frames (Some i) (hats_of hats) crowd)) (start_all tasks (Some i) (hats_of hats) (seen_crowd (task (sheets p)) crowd)) (sym (hats_seen hats))
-      (seen_stop T U stop (seen_crowd (task (sheets p))) (start_all frames (Some i) (hats_of hats) crowd) h))))
+      (begin_stops stream p i w ready.kept.threads hats T U stop h))
 
   -- A clone that is deleted
 
@@ -299,14 +295,30 @@ module _ {R : Type 0} (stream : R → Stream) (p : Project) (i : ℕ) (w : State
             (λ s rest e. deleted_is s rest ∙ ap (λ o. then_do o (λ v. Goes (moved i gone v))) clone_is
             ∙ ap (λ ts. Goes (record { world = record (seen stream p (deleted last)) { threads = ts }; report = Ended })) gone_seen)
 
-        pub delete_after : IsKept p (deleted last)
-        delete_after = record {
-          threads = record {
-            all = subst (Everyone (Fits (sheets p))) (sym finished) (gone_fits (at_place which mid)
-                (subst (Everyone (Fits (sheets p))) (sym ended) (ended_everyone frames (Fits (sheets p)) None n.here w.threads (finish_fits p) ready.kept.threads.all)));
-          };
-          few = ready.kept.few;
-        }
+        module _ (cast : IsSameCast targets shown) where
+          gone_people : ArePeopled p w.next_instance shown
+          gone_people =
+              people_cast p w.next_instance targets (subst (ArePeopled p w.next_instance) (sym targets_are) (people_removed p w.next_instance w.targets ready.kept.people n.here clone)) shown cast
+
+          others_live : (m : ℕ) → m ≢ n.here → IsLive m w.targets → IsLive m shown
+          others_live m other h = cast.live m (subst (IsLive m) (sym targets_are) (is_live-without m n.here w.targets other h))
+
+          last_is : last ≡ on_place finish (place i w.threads) (finished_of frames None n.here w.threads)
+          last_is = finished ∙ (λ j. on_place finish (at j) (ended j))
+
+          pub delete_after : IsKept p (deleted last)
+          delete_after = record {
+            threads = record {
+              all = subst (Everyone (Fits (sheets p))) (sym finished) (gone_fits (at_place which mid)
+                  (subst (Everyone (Fits (sheets p))) (sym ended) (ended_everyone frames (Fits (sheets p)) None n.here w.threads (finish_fits p) ready.kept.threads.all)));
+            };
+            few = ready.kept.few;
+            dressed = ready.kept.dressed;
+            people = gone_people;
+            living = subst (Everyone (IsOfLive shown)) (sym last_is) (gone_living w.targets shown n.here others_live i w.threads ready.kept.living);
+            free = subst (HasNoneFrom w.next_instance) (sym variables_are)
+                (λ m le. none_first_removed (λ (s : Store). s.of == m) (λ s. s.of == n.here) w.variables.stores (ready.kept.free m le));
+          }
 
   -- an original goes on
   module _ (which : Which) (at : which ≡ place i w.threads) where

@@ -1,6 +1,8 @@
 -- The block of the running thread: its row, and the control of its own thread.
-use Rattle.std.proofs.Common.{◌≡◌, ℕ, ◌<◌, Bool, true, false, List, [], ◌∷◌, ◌++◌, Option, Some, None, Result, Ok, Err, refl, sym, ap, ◌∙◌, subst, arith}
-use Rattle.std.specs.Prelude.{slice_get, unwrap_or, IfOk}
+use Rattle.std.proofs.Common.{◌≡◌, ℕ, ◌<◌, Bool, true, false, List, [], ◌∷◌, ◌++◌, length, Option, Some, None, Result, Ok, Err, refl, sym, ap, ◌∙◌, subst, arith}
+use Rattle.std.specs.Prelude.{slice_get, unwrap_or, nat_lt, ◌==◌, ◌||◌, IfOk}
+use Rattle.std.proofs.lemmas.Bool.{eqb-true}
+use Rattle.std.proofs.lemmas.Bool.Decides.{nat_tests}
 use Rattle.rand_core.specs.Stream.{Stream}
 use Rattle.script_words.specs.declared.counting.Counted.{Counted}
 use Rattle.script_words.specs.declared.stops.Stop.{Stop}
@@ -10,6 +12,7 @@ use Rattle.script_machine.specs.Script.{Script, Then, Statement, command_of}
 use Rattle.script_machine.specs.declared.threads.Context.{Context}
 use Rattle.script_machine.specs.declared.threads.Context.TheVariants.{Fresh, Repeat, Wait, Glide, Started, Asked, Spoken, Called}
 use Rattle.script_machine.specs.declared.threads.Control.{Control}
+use Rattle.script_machine.specs.declared.threads.Control.TheVariants.{Clone}
 use Rattle.script_machine.specs.declared.threads.Report.{Report}
 use Rattle.script_machine.specs.declared.threads.Which.{Which}
 use Rattle.opcode_table.specs.declared.kinds.Kind.{Kind}
@@ -36,6 +39,7 @@ use Rattle.project_check.specs.declared.project.Project.{Project}
 use Rattle.project_check.specs.Loaded.{program_of, blocks_at, ranks_at}
 use Rattle.cached_blocks.specs.declared.block.CachedBlock.{CachedBlock}
 use Rattle.cached_blocks.specs.Cached.{cached_block, cached_blocks}
+use Rattle.targets.specs.Live.{IsLive}
 use Rattle.thread_frames.specs.declared.level.Level.{Level}
 use Rattle.thread_frames.specs.Levels.{on_top, with_context, without_top, top_block, top_context, near_params, warp_flag}
 use Rattle.thread_frames.specs.Reading.{beneath, task}
@@ -49,10 +53,11 @@ use Rattle.thread_moves.proofs.Moves.{cached_is}
 use Rattle.executions.specs.declared.state.State.{State}
 use Rattle.executions.specs.declared.stepping.Next.{Next}
 use Rattle.executions.specs.Seen.{sheets, seen_threads, seen}
-use Rattle.executions.specs.Ready.{AllFit, IsReady, IsAfter}
+use Rattle.executions.specs.Ready.{IsReady, IsAfter}
 use Rattle.executions.specs.Moves.{IsAtBlock, Moved, MovesOn, room_for}
 use Rattle.executions.specs.Nexts.{next_by, next_of}
-use Rattle.executions.specs.Rows.{with_tasks, RowGoes, RowStops, enacts, Enacts, Acts}
+use Rattle.executions.specs.Rows.{with_tasks, RowGoes, RowStops, Leaves, may_clone, enacts, Enacts, Acts}
+use Rattle.executions.proofs.Keeping.{kept_leaves, kept_here}
 use Rattle.executions.proofs.Placing.{put_at, put_self}
 use Rattle.executions.proofs.Stops.{stop-then, stop-same}
 use Rattle.executions.proofs.Taking.{without, found, mid_is, at_block, listing}
@@ -119,6 +124,10 @@ module _ {R : Type 0} (stream : R → Stream) (p : Project) (i : ℕ) (which : W
 
   pub ranked : IsRanked (sheets p ready.thread.target)
   ranked = subst (λ t. IsRanked (sheets p t)) facts.target_is (record { ranks = ranks_at n.target p; falls = ranks; closed = closed })
+
+  -- its instance is live
+  pub here_live : IsLive n.here w.targets
+  here_live = subst (λ m. IsLive m w.targets) (sym facts.here_is) (kept_here p w ready.kept (place i w.threads) ready.thread ready.found ready.alive)
 
   -- what is shown of the thread's statement holds however it is told
   pub told : (P : Outcome (Moment (World Task)) → Type 0)
@@ -199,35 +208,35 @@ module _ {R : Type 0} (stream : R → Stream) (p : Project) (i : ℕ) (which : W
     mid_levels = ap (λ ts. levels_of (at_place which ts)) (mid_is p i n.id w ready facts.holds which at mid taken) ∙ ap levels_of (put_at which w.threads ready.thread (without ready.thread) (found p i n.id w ready facts.holds which at mid taken))
 
     module _ (new : State R) (control : Control) (new_context : Context) (goes : RowGoes stream p b a n.here n.serial context (record w { threads = mid }) new_context new control) (own : is_own control ≡ true)
-        (threads_are : new.threads ≡ mid) (few : new.next_thread ≡ w.next_thread) where
+        (left : Leaves (record w { threads = mid }) new) where
       pub own_stops : (T U : Type 0) (stop : Stop) → StopIs {T = T} (Err stop) (room_for (opens_level control) (open_levels frames new.threads)) → Enacts stream p i n.id late a w (StopIs {T = U} (Err stop))
       own_stops T U stop h =
           told (StopIs {T = U} (Err stop))
           (steps.own_stops stream p i n.id late w ready facts.holds ranked a new control new_context (row_here new control new_context goes) own T U stop mid same_open
-          (subst (λ ts. StopIs {T = T} (Err stop) (room_for (opens_level control) (open_levels frames ts))) threads_are h))
+          (subst (λ ts. StopIs {T = T} (Err stop) (room_for (opens_level control) (open_levels frames ts))) left.threads h))
 
       module _ (last : State R) (report : Report) (moves : MovesOn p which n.target n.id (λ s rest warp. position (program_of p) late warp s rest control new_context) new.threads last.threads report) (last_is : last ≡ record new { threads = last.threads }) where
         moved_here : Moved p which mid last.threads (position (program_of p) late (warp_flag ready.thread.levels) s_ r_ control new_context) report
         moved_here =
             let m = moves s_ (steps.rest stream p i n.id late w ready facts.holds ranked) (subst (λ t. script (sheets p t) (Some n.id) ≡ Then s_ (steps.rest stream p i n.id late w ready facts.holds ranked)) (sym facts.target_is) (steps.script_is stream p i n.id late w ready facts.holds ranked)) in
-            let levels_are : levels_of (at_place which new.threads) ≡ on_top (with_context Fresh) ready.thread.levels = ap (λ ts. levels_of (at_place which ts)) threads_are ∙ mid_levels in
+            let levels_are : levels_of (at_place which new.threads) ≡ on_top (with_context Fresh) ready.thread.levels = ap (λ ts. levels_of (at_place which ts)) left.threads ∙ mid_levels in
             let warp_is : warp_flag (levels_of (at_place which new.threads)) ≡ warp_flag ready.thread.levels = ap warp_flag levels_are ∙ warp_taken ready.thread.levels in
             let under_is : without_top (levels_of (at_place which new.threads)) ≡ without_top ready.thread.levels = ap without_top levels_are ∙ rest_taken ready.thread.levels in
-            subst (λ x. x) (λ j. Moved p which (threads_are j) last.threads (position (program_of p) late (warp_is j) s_ (dos (steps.rest stream p i n.id late w ready facts.holds ranked) ++ beneath (sheets p (facts.target_is j)) (under_is j)) control new_context) report) m
+            subst (λ x. x) (λ j. Moved p which (left.threads j) last.threads (position (program_of p) late (warp_is j) s_ (dos (steps.rest stream p i n.id late w ready facts.holds ranked) ++ beneath (sheets p (facts.target_is j)) (under_is j)) control new_context) report) m
 
         pub own_goes : (opens_level control ≡ true → open_levels frames new.threads < most_levels) → Enacts stream p i n.id late a w (λ o. o ≡ Goes (record { world = seen stream p last; report = report }))
         own_goes room =
             told (λ o. o ≡ Goes (record { world = seen stream p last; report = report }))
-            (steps.own_goes stream p i n.id late w ready facts.holds ranked a new control new_context (row_here new control new_context goes) own which at mid (mid_is p i n.id w ready facts.holds which at mid taken) last.threads report moved_here few
-            (λ e. subst (λ ts. open_levels frames ts < most_levels) threads_are (room e)) same_open
+            (steps.own_goes stream p i n.id late w ready facts.holds ranked a new control new_context (row_here new control new_context goes) own which at mid (mid_is p i n.id w ready facts.holds which at mid taken) last.threads report moved_here left
+            (λ e. subst (λ ts. open_levels frames ts < most_levels) left.threads (room e)) same_open
             ∙ ap (λ x. Goes (record { world = seen stream p x; report = report })) (sym last_is))
 
         pub own_after : IsAfter p i report last
-        own_after = subst (IsAfter p i report) (sym last_is) (steps.own_after stream p i n.id late w ready facts.holds ranked a new control new_context (row_here new control new_context goes) own which at mid (mid_is p i n.id w ready facts.holds which at mid taken) last.threads report moved_here few)
+        own_after = subst (IsAfter p i report) (sym last_is) (steps.own_after stream p i n.id late w ready facts.holds ranked a new control new_context (row_here new control new_context goes) own which at mid (mid_is p i n.id w ready facts.holds which at mid taken) last.threads report moved_here left)
 
     -- a control of others: the block had kept nothing, so that nothing was taken
     module _ (new : State R) (control : Control) (new_context : Context) (goes : RowGoes stream p b a n.here n.serial context (record w { threads = mid }) new_context new control)
-        (afresh : was_afresh (kind b.op) context ≡ true) (fresh : new_context ≡ Fresh) (threads_are : new.threads ≡ mid) (few : new.next_thread ≡ w.next_thread) where
+        (afresh : was_afresh (kind b.op) context ≡ true) (fresh : new_context ≡ Fresh) (left : Leaves (record w { threads = mid }) new) where
       top_is_fresh : top_context ready.thread.levels ≡ Fresh
       top_is_fresh = fresh_by ready.thread.levels n.id (sheets p ready.thread.target) ready.ready facts.holds (kind b.op) (λ o. kind_here o) (ap (was_afresh (kind b.op)) (sym kept_is) ∙ afresh)
         where
@@ -241,7 +250,7 @@ module _ {R : Type 0} (stream : R → Stream) (p : Project) (i : ℕ) (which : W
       thread_is = ap (λ ls. record ready.thread { levels = ls }) (same_levels ready.thread.levels top_is_fresh)
 
       pub threads_same : new.threads ≡ w.threads
-      threads_same = threads_are ∙ mid_is p i n.id w ready facts.holds which at mid taken ∙ ap (λ t. put which t w.threads) thread_is ∙ put_self which w.threads ready.thread (found p i n.id w ready facts.holds which at mid taken)
+      threads_same = left.threads ∙ mid_is p i n.id w ready facts.holds which at mid taken ∙ ap (λ t. put which t w.threads) thread_is ∙ put_self which w.threads ready.thread (found p i n.id w ready facts.holds which at mid taken)
 
       pub still_ready : IsReady p i new
       still_ready = record {
@@ -249,8 +258,20 @@ module _ {R : Type 0} (stream : R → Stream) (p : Project) (i : ℕ) (which : W
         found = ap (running i) threads_same ∙ ready.found;
         alive = ready.alive;
         ready = ready.ready;
-        kept = record { threads = subst (AllFit p) (sym threads_same) ready.kept.threads; few = omega (arith, ready.kept.few, few) };
+        kept = kept_leaves p w new ready.kept (record { threads = threads_same; next_thread = left.next_thread; next_instance = left.next_instance; targets = left.targets; one_each = left.one_each; free = left.free });
       }
+
+      -- what it makes a clone of is live
+      pub clones_live : may_clone n.here (length (program_of p).records.targets) control ≡ true → (original : ℕ) → control ≡ Clone original → IsLive original new.targets
+      clones_live may original e = by (original == n.here) refl
+        where
+          by : (b : Bool) → (original == n.here) ≡ b → IsLive original new.targets
+          by true same =
+              subst (λ m. IsLive m new.targets) (sym (eqb-true original n.here same ∙ facts.here_is))
+              (kept_here p new still_ready.kept (place i new.threads) ready.thread (ap (running i) threads_same ∙ ready.found) ready.alive)
+          by false other =
+              let lt : nat_lt original (length (program_of p).records.targets) ≡ true = sym (ap (λ b. b || nat_lt original (length (program_of p).records.targets)) other) ∙ ap (may_clone n.here (length (program_of p).records.targets)) (sym e) ∙ may in
+              still_ready.kept.people.originals original (grind (arith, nat_tests, lt))
 
       pub still_next : next_of (at_place which new.threads) ≡ Some n
       still_next = ap (λ ts. next_of (at_place which ts)) threads_same ∙ next

@@ -11,7 +11,7 @@ use Rattle.script_machine.specs.declared.threads.Which.{Which}
 use Rattle.script_machine.specs.declared.threads.Which.TheVariants.{Slot, Detached}
 use Rattle.script_machine.specs.Places.{Places, at_place, running, on_place, Everyone}
 use Rattle.script_machine.specs.Starting.{Handle, Crowd, Pair, restarts, open_levels, runs_at, replaced, replaced_at, appended, placed, is_of, is_alive_of, new_thread, ignored_or_appended, start_by, start_one, start_all, is_spared, finished_from, finished_of}
-use Rattle.executions.proofs.Natural.{goes_map, then_goes, room_goes, joined_goes}
+use Rattle.executions.proofs.Each.{goes_map, then_goes, room_goes, joined_goes}
 
 get_other : {A : Type 0} (xs : List A) (i j : ℕ) (x : A) → (i ≡ j → ⊥) → slice_get (slice_set xs j x) i ≡ slice_get xs i
 get_other [] i j x h = refl

@@ -4,7 +4,7 @@ use Rattle.std.specs.Prelude.{slice_get, slice_set, sum_by, nat_lt, IfSome, if�
 use Rattle.std.specs.List.{All, list_any, position_or_len}
 use Rattle.std.specs.Option.{option_map}
 use Rattle.std.proofs.lemmas.List.{map-append, map-set}
-use Rattle.std.proofs.lemmas.List.Elements.{All-nil, All-cons, All-head, All-tail, All-append}
+use Rattle.std.proofs.lemmas.List.Elements.{All-head, All-tail}
 use Rattle.std.proofs.lemmas.List.Sums.{sum_by-cons}
 use Rattle.std.proofs.lemmas.Option.{slice_get-map}
 use Rattle.opcode_table.specs.Kinds.{hat_kind}
@@ -17,7 +17,8 @@ use Rattle.script_machine.specs.declared.threads.Which.{Which}
 use Rattle.script_machine.specs.declared.threads.Which.TheVariants.{Slot}
 use Rattle.script_machine.specs.Places.{Places, put, put_some, on_place, sum_some, shown_by, Everyone}
 use Rattle.script_machine.specs.Starting.{Handle, Crowd, Pair, restarts, open_levels, runs_at, replaced, replaced_at, appended, placed, joined, is_of, is_alive_of, new_thread, ignored_or_appended, start_by, start_one, start_all, is_spared, finished_from, finished_of}
-use Rattle.executions.proofs.Placing.{put_seen, everyone_at, everyone_put}
+use Rattle.executions.proofs.Each.{goes_map, start_each}
+use Rattle.executions.proofs.Placing.{put_seen, everyone_put}
 
 -- the answer, and the threads with their numbers, seen by f
 abbrev pub seen_out : {A B : Type 0} → (A → B) → Outcome A → Outcome B
@@ -62,40 +63,6 @@ module _ {A B : Type 0} (f : A → B) where
   then_seen (TooLong n) m k h = refl
   then_seen (Spent which) m k h = refl
 
-module _ {A : Type 0} where
-  pub goes_map : (o : Outcome A) (Q R : A → Type 0) → ((x : A) → Q x → R x) → IfGoes o Q → IfGoes o R
-  goes_map (Goes x) Q R g h = g x h
-  goes_map Full Q R g h = tt
-  goes_map (TooLong n) Q R g h = tt
-  goes_map (Spent which) Q R g h = tt
-
-  pub then_goes : {B : Type 0} (o : Outcome A) (m : A → Outcome B) (R : B → Type 0) → IfGoes o (λ x. IfGoes (m x) R) → IfGoes (then_do o m) R
-  then_goes (Goes x) m R h = h
-  then_goes Full m R h = tt
-  then_goes (TooLong n) m R h = tt
-  then_goes (Spent which) m R h = tt
-
-  room_by : (P : A → Type 0) (b : Bool) (x : A) → P x → IfGoes (if b then Goes x else Full) P
-  room_by P true x p = p
-  room_by P false x p = tt
-
-  pub room_goes : (P : A → Type 0) (n : ℕ) (x : A) → P x → IfGoes (with_room n x) P
-  room_goes P n x p = room_by P (nat_lt n most_levels) x p
-
-  number_if : (P : A → Type 0) (b : Bool) (which : CounterKind) (o : Outcome A) → IfGoes o P → IfGoes (if b then Spent which else o) P
-  number_if P true which o h = tt
-  number_if P false which o h = h
-
-  pub number_goes : (P : A → Type 0) (which : CounterKind) (n : ℕ) (o : Outcome A) → IfGoes o P → IfGoes (with_number which n o) P
-  number_goes P which n o h = number_if P (n == last_number) which o h
-
-module _ {A : Type 0} where
-  -- a fact of the threads is one of the threads with their numbers
-  pub joined_goes : (P : Places A → Type 0) (c : Crowd A) (o : Outcome (Places A)) → IfGoes o P → IfGoes (joined c o) (λ d. P d.threads)
-  joined_goes P c o h =
-      number_goes (λ d. P d.threads) counter.Thread c.next (then_do o (λ ts. Goes (record { threads = ts; next = c.next + 1; serials = c.serials ++ c.next ∷ [] })))
-      (then_goes o (λ ts. Goes (record { threads = ts; next = c.next + 1; serials = c.serials ++ c.next ∷ [] })) (λ d. P d.threads) h)
-
 -- Lists
 
 module _ {A B : Type 0} (f : A → B) where
@@ -129,9 +96,6 @@ module _ {A B : Type 0} (f : A → B) where
   joined_seen c o =
       number_seen (seen_crowd f) counter.Thread c.next (then_do o (λ ts. Goes (record { threads = ts; next = c.next + 1; serials = c.serials ++ c.next ∷ [] })))
       ∙ ap (with_number counter.Thread c.next) (placed_crowd (c.next + 1) (c.serials ++ c.next ∷ []) o)
-
-all_push : {A : Type 0} (P : A → Type 0) (xs : List A) (x : A) → All P xs → P x → All P (xs ++ x ∷ [])
-all_push P xs x h p = All-append P xs (x ∷ []) h (All-cons P x [] p (All-nil P))
 
 -- Starting
 
@@ -207,34 +171,8 @@ module _ {A B : Type 0} (f : A → B) (H : Pair → Type 0) (ka : Handle A) (kb 
       ignored_seen (list_any (is_alive_of ka x) c.threads.list) x c k h ∙ ap (λ b. ignored_or_appended b kb x (seen_crowd f c)) (alive_is x c.threads.list)
 
   -- each thread is still seen with as many levels as it has
-
-  replaced_counted : (runs : Bool) (j : ℕ) (old new : A) (ts : Places A) → Everyone IsCounted ts → IsCounted old → IsCounted new → IfGoes (replaced ka runs j old new ts) (Everyone IsCounted)
-  replaced_counted true j old new ts h p q =
-      room_goes (Everyone IsCounted) (open_levels ka ts) (record { list = slice_set ts.list j new; detached = Some old }) (record { listed = (everyone_put IsCounted (Slot j) ts new h q).listed; detached = p })
-  replaced_counted false j old new ts h p q =
-      room_goes (Everyone IsCounted) (open_levels ka (on_place ka.finish (Slot j) ts)) (record { list = slice_set ts.list j new; detached = ts.detached }) (everyone_put IsCounted (Slot j) ts new h q)
-
-  replaced_at_counted : (runs : Bool) (j : ℕ) (o : Option A) (new : A) (ts : Places A) → slice_get ts.list j ≡ o → Everyone IsCounted ts → IsCounted new → IfGoes (replaced_at ka runs j o new ts) (Everyone IsCounted)
-  replaced_at_counted runs j None new ts e h q = h
-  replaced_at_counted runs j (Some old) new ts e h q = replaced_counted runs j old new ts h (everyone_at IsCounted (Slot j) ts old h e) q
-
-  appended_counted : (new : A) (ts : Places A) → Everyone IsCounted ts → IsCounted new → IfGoes (appended ka new ts) (Everyone IsCounted)
-  appended_counted new ts h q =
-      room_goes (Everyone IsCounted) (open_levels ka ts) (record { list = ts.list ++ new ∷ []; detached = ts.detached }) (record { listed = all_push IsCounted ts.list new h.listed q; detached = h.detached })
-
-  placed_counted : (running o : Option ℕ) (new : A) (ts : Places A) → Everyone IsCounted ts → IsCounted new → IfGoes (placed ka running o new ts) (Everyone IsCounted)
-  placed_counted running None new ts h q = appended_counted new ts h q
-  placed_counted running (Some j) new ts h q = replaced_at_counted (runs_at running j ts.detached) j (slice_get ts.list j) new ts refl h q
-
-  ignored_counted : (b : Bool) (x : Pair) (c : Crowd A) → H x → Everyone IsCounted c.threads → IfGoes (ignored_or_appended b ka x c) (λ d. Everyone IsCounted d.threads)
-  ignored_counted true x c k h = h
-  ignored_counted false x c k h = joined_goes (Everyone IsCounted) c (appended ka (new_thread ka x c) c.threads) (appended_counted (new_thread ka x c) c.threads h (s.fresh_depth c.next x k))
-
   start_counted : (again : Bool) (running : Option ℕ) (x : Pair) (c : Crowd A) → H x → Everyone IsCounted c.threads → IfGoes (start_by again ka running x c) (λ d. Everyone IsCounted d.threads)
-  start_counted true running x c k h =
-      joined_goes (Everyone IsCounted) c (placed ka running (position (is_of ka x) c.threads.list) (new_thread ka x c) c.threads)
-      (placed_counted running (position (is_of ka x) c.threads.list) (new_thread ka x c) c.threads h (s.fresh_depth c.next x k))
-  start_counted false running x c k h = ignored_counted (list_any (is_alive_of ka x) c.threads.list) x c k h
+  start_counted = start_each ka IsCounted H s.fresh_depth
 
   -- hats in turn
   pub starts_seen : (running : Option ℕ) (xs : List Pair) (c : Crowd A) → All H xs → Everyone IsCounted c.threads → seen_out (seen_crowd f) (start_all ka running xs c) ≡ start_all kb running xs (seen_crowd f c)

@@ -42,7 +42,8 @@ use Rattle.executions.specs.declared.state.State.{State}
 use Rattle.executions.specs.Seen.{sheets, seen_threads, seen}
 use Rattle.executions.specs.Ready.{IsReady, IsAfter}
 use Rattle.executions.specs.Moves.{with_levels, Moved, room_for}
-use Rattle.executions.specs.Rows.{with_tasks, enacts, Enacts}
+use Rattle.executions.specs.Rows.{with_tasks, Leaves, enacts, Enacts}
+use Rattle.executions.proofs.Keeping.{kept_leaves}
 use Rattle.executions.proofs.Stops.{stop-then, stop-same}
 use Rattle.executions.proofs.Placing.{running_seen, put_at, put_put}
 use Rattle.executions.proofs.Worlds.{moved_is, after}
@@ -181,7 +182,7 @@ module _ {R : Type 0} (stream : R → Stream) (p : Project) (i k : ℕ) (late : 
           (room_stops T U stop (opens_level control) i (position (program_of p) late t.warp s r control context) (seen stream p acting) (open_levels frames mid) (same ∙ open_is) h)
 
       module _ (which : Which) (at : which ≡ place i w.threads) (mid : Places Thread) (mid_is : mid ≡ put which (without ready.thread) w.threads) (ts : Places Thread) (report : Report)
-          (m : Moved p which mid ts (position (program_of p) late t.warp s r control context) report) (few : applied_state.next_thread ≡ w.next_thread) where
+          (m : Moved p which mid ts (position (program_of p) late t.warp s r control context) report) (left : Leaves (record w { threads = mid }) applied_state) where
         abbrev pub last : State R
         last = record applied_state { threads = ts }
 
@@ -201,4 +202,5 @@ module _ {R : Type 0} (stream : R → Stream) (p : Project) (i k : ℕ) (late : 
             ∙ ap Goes (moved_is stream p i acting ts ready.thread (position (program_of p) late t.warp s r control context) m.levels report stands_is ready.found ts_is)
 
         pub own_after : IsAfter p i report last
-        own_after = after p ready.thread (position (program_of p) late t.warp s r control context) m.levels report stands_is i acting ts ready.found ts_is (record { threads = ready.kept.threads; few = omega (arith, ready.kept.few, few) })
+        own_after = after p ready.thread (position (program_of p) late t.warp s r control context) m.levels report stands_is i acting ts ready.found ts_is ready.alive
+            (kept_leaves p w acting ready.kept (record { threads = refl; next_thread = left.next_thread; next_instance = left.next_instance; targets = left.targets; one_each = left.one_each; free = left.free }))

@@ -1,12 +1,12 @@
 -- What was done with the running thread is seen in the world.
-use Rattle.std.proofs.Common.{◌≡◌, ℕ, Bool, true, false, List, [], ◌∷◌, Some, refl, sym, ap, ◌∙◌, subst, arith}
+use Rattle.std.proofs.Common.{◌≡◌, ℕ, Bool, true, false, List, [], ◌∷◌, Some, refl, sym, ap, ◌∙◌, arith}
 use Rattle.std.specs.Prelude.{is_some}
 use Rattle.rand_core.specs.Stream.{Stream}
 use Rattle.script_machine.specs.declared.threads.Report.{Report}
 use Rattle.script_machine.specs.declared.threads.Report.TheVariants.{Go, Uncovered, Yielded, Ticked, Waits, Ended}
 use Rattle.script_machine.specs.Threads.{is_done}
 use Rattle.script_machine.specs.Pending.{Position}
-use Rattle.script_machine.specs.Places.{Places, place, put, running, on_running, Everyone}
+use Rattle.script_machine.specs.Places.{Places, place, put, running, on_running}
 use Rattle.script_machine.specs.Tasks.{at_position, status_after}
 use Rattle.script_machine.specs.Step.{moved}
 use Rattle.project_check.specs.declared.project.Project.{Project}
@@ -19,9 +19,10 @@ use Rattle.thread_frames.specs.Fit.{Fits, IsReadyAt, IsAtRest}
 use Rattle.thread_moves.specs.Standing.{IsAt, is_ended, IsReadyUnless as LevelsReadyUnless}
 use Rattle.executions.specs.declared.state.State.{State}
 use Rattle.executions.specs.Seen.{sheets, seen_threads, seen}
-use Rattle.executions.specs.Ready.{AllFit, IsKept, IsReadyUnless, IsAfter}
+use Rattle.executions.specs.Ready.{IsKept, IsReadyUnless, IsAfter}
 use Rattle.executions.specs.Moves.{with_levels}
-use Rattle.executions.proofs.Placing.{running_put, everyone_put, on_running_seen}
+use Rattle.executions.proofs.Keeping.{kept_put}
+use Rattle.executions.proofs.Placing.{running_put, on_running_seen}
 
 -- a report leaves a thread done where it has ended
 ended_done : (r : Report) → is_done (status_after r) ≡ is_ended r
@@ -65,16 +66,13 @@ module _ (p : Project) (t : Thread) (x : Position) (levels : List Level) (report
     pub threads_moved : on_running (at_position x) i (seen_threads p old) ≡ seen_threads p new
     threads_moved = on_running_seen (task (sheets p)) (at_position x) i old t (with_levels levels report t) found stands ∙ ap (seen_threads p) (sym new_is)
 
-    pub all_fit : AllFit p old → AllFit p new
-    all_fit all = record { all = subst (Everyone (Fits (sheets p))) (sym new_is) (everyone_put (Fits (sheets p)) (place i old) old (with_levels levels report t) all.all fits) }
-
     pub still_running : running i new ≡ Some (with_levels levels report t)
     still_running = ap (running i) new_is ∙ running_put i old t (with_levels levels report t) found
 
   -- what is kept of the run afterwards
-  module _ {R : Type 0} (i : ℕ) (w : State R) (ts : Places Thread) (found : running i w.threads ≡ Some t) (new_is : ts ≡ put (place i w.threads) (with_levels levels report t) w.threads) (kept : IsKept p w) where
+  module _ {R : Type 0} (i : ℕ) (w : State R) (ts : Places Thread) (found : running i w.threads ≡ Some t) (new_is : ts ≡ put (place i w.threads) (with_levels levels report t) w.threads) (alive : is_done t.status ≡ false) (kept : IsKept p w) where
     kept_is : IsKept p (record w { threads = ts })
-    kept_is = record { threads = all_fit i w.threads ts found new_is kept.threads; few = kept.few }
+    kept_is = kept_put p w kept (place i w.threads) t (with_levels levels report t) found fits refl (λ e. alive) ts new_is
 
     after_by : (b : Bool) → is_ended report ≡ b → LevelsReadyUnless b (sheets p t.target) levels → IsReadyUnless b p i (record w { threads = ts })
     after_by true e h = kept_is

@@ -1,5 +1,5 @@
 -- The row of a block on a run; the contracts of private functions alone cite these.
-use Rattle.std.specs.Prelude.{◌≡◌, ℕ, Bool, List, ◌++◌, map, Some, Result}
+use Rattle.std.specs.Prelude.{◌≡◌, ℕ, ◌==◌, ◌||◌, nat_lt, Bool, true, List, ◌++◌, map, Some, Result}
 use Rattle.rand_core.specs.Stream.{Stream}
 use Rattle.scratch_values.specs.Named.{Arguments}
 use Rattle.script_words.specs.declared.stops.Stop.{Stop}
@@ -8,6 +8,7 @@ use Rattle.script_machine.specs.Script.{Script, Then, Statement, Command, comman
 use Rattle.script_machine.specs.declared.threads.Context.{Context}
 use Rattle.script_machine.specs.declared.threads.Context.TheVariants.{Fresh}
 use Rattle.script_machine.specs.declared.threads.Control.{Control}
+use Rattle.script_machine.specs.declared.threads.Control.TheVariants.{Clone}
 use Rattle.script_machine.specs.Pending.{Item, dos}
 use Rattle.script_machine.specs.Places.{Places, running}
 use Rattle.script_machine.specs.Step.{Moment, Applied, row, act}
@@ -21,6 +22,9 @@ use Rattle.thread_frames.specs.Levels.{top_context, without_top}
 use Rattle.thread_frames.specs.Reading.{beneath, task}
 use Rattle.thread_frames.specs.Threads.{Thread, listed}
 use Rattle.executions.specs.declared.state.State.{State}
+use Rattle.variables.specs.Held.{HasNoStore}
+use Rattle.looks_blocks.specs.Live.{HasOneEach}
+use Rattle.executions.specs.Ready.{HasSameTargets}
 use Rattle.executions.specs.Seen.{sheets, seen}
 
 -- tasks in the place of the threads of a run
@@ -44,6 +48,20 @@ RowGoes stream p b a here thread old_context old new_context new control =
 
 abbrev pub RowStops : {R T : Type 0} → (R → Stream) → Project → CachedBlock → Arguments → (here thread : ℕ) → Context → State R → Result T Stop → Type 0
 RowStops stream p b a here thread c r result = (d : Command) (ts : Places Task) → IsOf b r d ts → StopIs result (row_on stream p d a here thread c r ts)
+
+-- what a row leaves: the threads, the numbers that are given next, who is live and of which target, and who has no variables
+pub record Leaves {R : Type 0} (old new : State R) : Type 0 where
+  pub threads : new.threads ≡ old.threads
+  pub next_thread : new.next_thread ≡ old.next_thread
+  pub next_instance : new.next_instance ≡ old.next_instance
+  pub targets : HasSameTargets old.targets new.targets
+  pub one_each : HasOneEach old.targets → HasOneEach new.targets
+  pub free : (n : ℕ) → HasNoStore n old.variables → HasNoStore n new.variables
+
+-- where a control makes a clone it is one of the instance itself, or of one of so many originals
+abbrev pub may_clone : (here originals : ℕ) → Control → Bool
+may_clone here originals (Clone original) = original == here || nat_lt original originals
+may_clone here originals _ = true
 
 -- the row of a thread's statement with these arguments, and what its control does
 abbrev pub enacts : {R : Type 0} → (R → Stream) → Project → (i : ℕ) → (late : Bool) → Thread → Statement → List Item → Arguments → State R → Outcome (Moment (World Task))

@@ -2,7 +2,9 @@
 #![tactic(auto)]
 
 mod acting;
-mod built;
+mod beginning;
+mod cloning;
+mod dressing;
 mod moving;
 mod opening;
 mod others;
@@ -12,5 +14,5 @@ mod state;
 mod stepping;
 mod stopping;
 
-pub use built::is_built;
+pub use dressing::is_dressed;
 pub use state::State;

@@ -1,16 +1,17 @@
 //! What a control does that acts on other threads or on instances.
 
-ghost use Rattle.std.specs.Prelude.{◌≡◌, ◌<◌, length, true, false, Some, IfOk, slice_get};
+ghost use Rattle.std.specs.Prelude.{◌≡◌, ◌<◌, ℕ, length, true, false, Some, IfOk, slice_get};
 ghost use Rattle.opcode_table.specs.Kinds.{kind};
 ghost use Rattle.cached_blocks.specs.declared.block.CachedBlock.{CachedBlock};
 ghost use Rattle.cached_blocks.specs.Cached.{cached_blocks};
 ghost use Rattle.script_machine.specs.declared.threads.Context.TheVariants.{Fresh};
+ghost use Rattle.script_machine.specs.declared.threads.Control.TheVariants.{Clone};
 ghost use Rattle.script_machine.specs.Keeping.{control_fits};
 ghost use Rattle.script_machine.specs.Laws as laws;
 ghost use Rattle.script_machine.specs.Outcome.{Goes, StopIs};
 ghost use Rattle.script_machine.specs.Places.{at_place, place};
 ghost use Rattle.project_check.specs.Loaded.{tables_of, blocks_at, sheet_at};
-ghost use Rattle.executions.specs.Built.{is_clone};
+ghost use Rattle.targets.specs.Live.{IsLive};
 ghost use Rattle.executions.specs.Nexts.{next_of};
 ghost use Rattle.executions.specs.Ready.{IsReady, IsAfter};
 ghost use Rattle.executions.specs.Rows.{Acts};
@@ -41,7 +42,7 @@ impl<R: Rng + Drop> State<R> {
         requires held { next.target < length (tables_of project.now) }
         requires member { next.id < length (blocks_at next.target project.now) }
         requires own { laws.is_own control ≡ false }
-        requires no_clone { is_clone control ≡ false }
+        requires clones { (original : ℕ) → control ≡ Clone original → IsLive original self.old.targets }
         requires fits { (b : CachedBlock) → slice_get (cached_blocks (sheet_at next.target project.now)) next.id ≡ Some b → control_fits control (kind b.op) Fresh ≡ true }
         ensures ok { IfOk result (λ report. Acts R.stream project.now slot next.id late control self.old (λ o. o ≡ Goes (record { world = seen R.stream project.now self.new; report = report }))) }
         ensures after { IfOk result (λ report. IsAfter project.now slot report self.new) }
@@ -50,14 +51,14 @@ impl<R: Rng + Drop> State<R> {
         match control {
             Control::StopOthers => self.stop_others(alloc, project, slot, which, next),
             Control::StopAll => {
-                self.stop_everything(project);
+                self.stop_all(project);
                 Ok(Report::Ended)
             }
             Control::DeleteClone => self.delete_clone(alloc, project, slot, which, next),
             Control::Start { hats, wait } => {
                 self.start_hats(alloc, project, slot, next, hats.get(), wait)
             }
-            Control::Clone { .. } => unreachable!(),
+            Control::Clone { of } => self.make_clone(alloc, project, slot, next, of),
             Control::Next => unreachable!(),
             Control::Branch { .. } => unreachable!(),
             Control::Yield => unreachable!(),

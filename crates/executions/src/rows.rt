@@ -1,6 +1,6 @@
 //! The rows of blocks on the parts of a run.
 
-ghost use Rattle.std.specs.Prelude.{◌≡◌, ◌||◌, ℕ, true, false, IfOk};
+ghost use Rattle.std.specs.Prelude.{◌≡◌, ◌||◌, ℕ, length, true, false, IfOk};
 ghost use Rattle.opcode_table.specs.Kinds.{kind, group};
 ghost use Rattle.opcode_table.specs.declared.grouping.Group.TheVariants as group_of;
 ghost use Rattle.script_machine.specs.declared.threads.Control.TheVariants.{Next};
@@ -8,8 +8,10 @@ ghost use Rattle.script_machine.specs.Keeping.{control_fits};
 ghost use Rattle.script_machine.specs.Laws.{is_own};
 ghost use Rattle.script_machine.specs.declared.threads.Context.TheVariants.{Fresh};
 ghost use Rattle.control_blocks.specs.Afresh.{was_afresh};
-ghost use Rattle.executions.specs.Built.{is_built_group, makes_no_clone, is_clone};
-ghost use Rattle.executions.specs.Rows.{RowGoes, RowStops};
+ghost use Rattle.project_check.specs.Loaded.{program_of};
+ghost use Rattle.targets.specs.Live.{IsLive};
+ghost use Rattle.executions.specs.Ready.{AreDressed, ArePeopled};
+ghost use Rattle.executions.specs.Rows.{RowGoes, RowStops, Leaves, may_clone};
 
 use crate::state::State;
 use cached_blocks::CachedBlock;
@@ -40,7 +42,7 @@ impl<R: Rng + Drop> State<R> {
         requires { group block.now.op ≡ group_of.Data }
         ensures ok { IfOk result (λ r. (thread : ℕ) → RowGoes R.stream project.now block.now args.entry.now here thread context self.old r.1 self.new r.0) }
         ensures next { IfOk result (λ r. r ≡ (Next, Fresh)) }
-        ensures kept { IfOk result (λ r. (self.new.threads ≡ self.old.threads) × (self.new.next_thread ≡ self.old.next_thread)) }
+        ensures kept { IfOk result (λ r. Leaves self.old self.new) }
         ensures stop { (thread : ℕ) → RowStops R.stream project.now block.now args.entry.now here thread context self.old result }
     {
         match data_blocks::apply(
@@ -74,7 +76,7 @@ impl<R: Rng + Drop> State<R> {
         ensures ok { IfOk result (λ r. (thread : ℕ) → RowGoes R.stream project.now block.now args.entry.now here thread context self.old r.1 self.new r.0) }
         ensures fits { IfOk result (λ r. control_fits r.0 (kind block.now.op) r.1 ≡ true) }
         ensures own { IfOk result (λ r. is_own r.0 ≡ true) }
-        ensures kept { IfOk result (λ r. (self.new.threads ≡ self.old.threads) × (self.new.next_thread ≡ self.old.next_thread)) }
+        ensures kept { IfOk result (λ r. Leaves self.old self.new) }
         ensures stop { (thread : ℕ) → RowStops R.stream project.now block.now args.entry.now here thread context self.old result }
     {
         let mut kept = context;
@@ -97,6 +99,51 @@ impl<R: Rng + Drop> State<R> {
         }
     }
 
+    // The row of a block of looks or of sound.
+    fn apply_looks(
+        &mut self,
+        alloc: Global,
+        project: &Project,
+        block: &CachedBlock,
+        args: &Args<'_>,
+        here: InstanceId,
+        thread: Serial,
+        context: Context,
+    ) -> Result<(Control, Context), Stop>
+        requires group { group block.now.op ≡ group_of.Looks }
+        requires dressed { AreDressed project.now }
+        requires people { ArePeopled project.now self.old.next_instance self.old.targets }
+        requires live { IsLive here self.old.targets }
+        ensures ok { IfOk result (λ r. RowGoes R.stream project.now block.now args.entry.now here thread context self.old r.1 self.new r.0) }
+        ensures fits { IfOk result (λ r. control_fits r.0 (kind block.now.op) r.1 ≡ true) }
+        ensures own { IfOk result (λ r. is_own r.0 ≡ false → r.1 ≡ Fresh) }
+        ensures clones { IfOk result (λ r. may_clone here (length (program_of project.now).records.targets) r.0 ≡ true) }
+        ensures afresh { IfOk result (λ r. is_own r.0 ≡ false → was_afresh (kind block.now.op) context ≡ true) }
+        ensures kept { IfOk result (λ r. Leaves self.old self.new) }
+        ensures stop { RowStops R.stream project.now block.now args.entry.now here thread context self.old result }
+    {
+        let mut kept = context;
+        match looks_blocks::apply(
+            alloc,
+            block.op,
+            args,
+            here,
+            thread,
+            project.records(),
+            &mut self.targets,
+            &mut self.devices,
+            &mut self.words,
+            &self.threads,
+            &mut kept,
+        ) {
+            Ok((control, redraw)) => {
+                self.redraw = either(self.redraw, redraw);
+                Ok((control, kept))
+            }
+            Err(stop) => Err(stop),
+        }
+    }
+
     // The row of a block of control.
     fn apply_control(
         &mut self,
@@ -108,14 +155,13 @@ impl<R: Rng + Drop> State<R> {
         thread: Serial,
         context: Context,
     ) -> Result<(Control, Context), Stop>
-        requires group { group block.now.op ≡ group_of.Control }
-        requires no_clone { makes_no_clone block.now.op ≡ true }
+        requires { group block.now.op ≡ group_of.Control }
         ensures ok { IfOk result (λ r. RowGoes R.stream project.now block.now args.entry.now here thread context self.old r.1 self.new r.0) }
         ensures fits { IfOk result (λ r. control_fits r.0 (kind block.now.op) r.1 ≡ true) }
         ensures own { IfOk result (λ r. is_own r.0 ≡ false → r.1 ≡ Fresh) }
-        ensures no_clone { IfOk result (λ r. is_clone r.0 ≡ false) }
+        ensures clones { IfOk result (λ r. may_clone here (length (program_of project.now).records.targets) r.0 ≡ true) }
         ensures afresh { IfOk result (λ r. is_own r.0 ≡ false → was_afresh (kind block.now.op) context ≡ true) }
-        ensures kept { IfOk result (λ r. (self.new.threads ≡ self.old.threads) × (self.new.next_thread ≡ self.old.next_thread)) }
+        ensures kept { IfOk result (λ r. Leaves self.old self.new) }
         ensures stop { RowStops R.stream project.now block.now args.entry.now here thread context self.old result }
     {
         let mut kept = context;
@@ -150,19 +196,20 @@ impl<R: Rng + Drop> State<R> {
         thread: Serial,
         context: Context,
     ) -> Result<(Control, Context), Stop>
-        requires group { is_built_group (group block.now.op) ≡ true }
-        requires no_clone { makes_no_clone block.now.op ≡ true }
+        requires dressed { AreDressed project.now }
+        requires people { ArePeopled project.now self.old.next_instance self.old.targets }
+        requires live { IsLive here self.old.targets }
         ensures ok { IfOk result (λ r. RowGoes R.stream project.now block.now args.entry.now here thread context self.old r.1 self.new r.0) }
         ensures fits { IfOk result (λ r. control_fits r.0 (kind block.now.op) r.1 ≡ true) }
         ensures own { IfOk result (λ r. is_own r.0 ≡ false → r.1 ≡ Fresh) }
-        ensures no_clone { IfOk result (λ r. is_clone r.0 ≡ false) }
+        ensures clones { IfOk result (λ r. may_clone here (length (program_of project.now).records.targets) r.0 ≡ true) }
         ensures afresh { IfOk result (λ r. is_own r.0 ≡ false → was_afresh (kind block.now.op) context ≡ true) }
-        ensures kept { IfOk result (λ r. (self.new.threads ≡ self.old.threads) × (self.new.next_thread ≡ self.old.next_thread)) }
+        ensures kept { IfOk result (λ r. Leaves self.old self.new) }
         ensures stop { RowStops R.stream project.now block.now args.entry.now here thread context self.old result }
     {
         match group(block.op) {
             Group::Motion => self.apply_motion(alloc, project, block, args, here, context),
-            Group::Looks => unreachable!(),
+            Group::Looks => self.apply_looks(alloc, project, block, args, here, thread, context),
             Group::Data => self.apply_data(project, block, args, here, context),
             Group::Control => {
                 self.apply_control(alloc, project, block, args, here, thread, context)

@@ -5,7 +5,6 @@ ghost use Rattle.script_machine.specs.Outcome.{Goes, StopIs};
 ghost use Rattle.script_machine.specs.Places.{at_place, place};
 ghost use Rattle.script_machine.specs.Step as machine;
 ghost use Rattle.project_check.specs.Loaded.{program_of, tables_of, blocks_at};
-ghost use Rattle.executions.specs.Built.{IsBuilt};
 ghost use Rattle.executions.specs.Ready.{IsReady, IsAfter};
 ghost use Rattle.executions.specs.Rows.{Enacts};
 ghost use Rattle.executions.specs.Seen.{seen};
@@ -64,7 +63,6 @@ impl<R: Rng + Drop> State<R> {
         args: &Args<'_>,
         late: bool,
     ) -> Result<Report, Stop>
-        requires built { IsBuilt project.now }
         requires ready { IsReady project.now slot self.old }
         requires at { which ≡ place slot self.old.threads }
         requires next { next_of (at_place which self.old.threads) ≡ Some next }
@@ -100,7 +98,6 @@ impl<R: Rng + Drop> State<R> {
         next: Next,
         late: bool,
     ) -> Result<Report, Stop>
-        requires built { IsBuilt project.now }
         requires ready { IsReady project.now slot self.old }
         requires at { which ≡ place slot self.old.threads }
         requires next { next_of (at_place which self.old.threads) ≡ Some next }
@@ -139,8 +136,7 @@ impl<R: Rng + Drop> State<R> {
         slot: u64,
         late: bool,
     ) -> Result<Report, Stop>
-        requires built { IsBuilt project.now }
-        requires ready { IsReady project.now slot self.old }
+        requires { IsReady project.now slot self.old }
         ensures ok { IfOk result (λ report. machine.step (program_of project.now) slot late (seen R.stream project.now self.old) ≡ Goes (record { world = seen R.stream project.now self.new; report = report })) }
         ensures after { IfOk result (λ report. IsAfter project.now slot report self.new) }
         ensures stop { StopIs result (machine.step (program_of project.now) slot late (seen R.stream project.now self.old)) }

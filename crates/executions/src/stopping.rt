@@ -8,6 +8,7 @@ ghost use Rattle.script_machine.specs.Stopping as machine;
 ghost use Rattle.project_check.specs.Loaded.{program_of, tables_of};
 ghost use Rattle.executions.specs.Nexts.{next_of};
 ghost use Rattle.executions.specs.Ready.{IsReady, IsKept, IsAfter};
+ghost use Rattle.executions.specs.Resting.{IsIdle};
 ghost use Rattle.executions.specs.Rows.{Acts};
 ghost use Rattle.executions.specs.Seen.{seen};
 
@@ -29,11 +30,12 @@ fn is_clone(project: &Project, id: InstanceId) -> bool
 }
 
 impl<R: Rng + Drop> State<R> {
-    // Stops everything.
-    pub(crate) fn stop_everything(&mut self, project: &Project)
+    /// Stops everything (scratch-vm, engine/runtime.js, stopAll): the clones are gone with their variables and lists, and so
+    /// are all questions, timers and threads; effects are 0, and what was said is gone.
+    pub fn stop_all(&mut self, project: &Project)
         requires { IsKept project.now self.old }
         ensures all { seen R.stream project.now self.new ≡ machine.all_stopped (program_of project.now).records (seen R.stream project.now self.old) }
-        ensures kept { IsKept project.now self.new }
+        ensures kept { IsIdle project.now self.new }
     {
         let targets = project.records().targets();
         self.targets.stop_all(targets);

@@ -7,4 +7,5 @@ mod Fitted
 mod Blocks
 mod Rounds
 mod Edging
+pub mod Fired
 pub mod Headed

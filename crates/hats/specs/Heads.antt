@@ -12,7 +12,7 @@ use Rattle.project_file.specs.Trees.{head_of, script}
 use Rattle.project_check.specs.declared.project.Project.{Project}
 use Rattle.project_check.specs.Loaded.{tables_of, blocks_at, sheet_at, program_of}
 use Rattle.thread_frames.specs.Threads.{Thread, begins_with}
-use Rattle.hats.specs.Edges.{free_edges}
+use Rattle.hats.specs.Edges.{EdgeHat, edge_of, free_edges}
 
 -- the target in which a hat stands
 abbrev pub target_of : Pair → ℕ
@@ -31,6 +31,17 @@ pub record IsHeadOf (p : Project) (is : List Instance) (x : Pair) : Type 0 where
   pub top : is_head block ≡ true
   pub head : x.head ≡ head_of (sheet_at (target_of x) p) (hat_block x.head) block
   pub begins : script (sheet_at (target_of x) p) (begins_with x.head.script) ≡ x.head.script
+
+-- the edge hat is of this hat, which heads a script of one of some instances
+pub record IsEdgeOf (p : Project) (edge : EdgeHat) (x : Pair) : Type 0 where
+  pub same : edge_of x ≡ edge
+  pub instances : List Instance
+  pub head : IsHeadOf p instances x
+
+-- the edge hat is of some hat of the project
+pub record IsEdge (p : Project) (edge : EdgeHat) : Type 0 where
+  pub pair : Pair
+  pub of : IsEdgeOf p edge pair
 
 -- all hats that a filter starts are such heads
 abbrev pub StartsAreHeads : Type 0

@@ -6,31 +6,27 @@ use Rattle.std.proofs.lemmas.Bool.Decides.{nat_tests}
 use Rattle.sv_channels.specs.Files.{Files}
 use Rattle.sv_channels.specs.Shelf.{IsHeld}
 use Rattle.sv_channels.proofs.Gains.{Gained-nil}
-use Rattle.project_json.specs.Text.{max_depth}
-use Rattle.project_json.specs.Refusal.{IsCause}
-use Rattle.project_json.specs.declared.refusal.JsonRefusal.{JsonRefusal}
-use Rattle.project_json.specs.declared.refusal.JsonRefusal.TheVariants as json_refusal
 use Rattle.project_json.proofs.Results.{json_one_tree, text_no_fault, same_fault}
 use Rattle.project_file.specs.declared.refusals.Refusal.{Refusal}
 use Rattle.project_file.specs.declared.refusals.Refusal.TheVariants as refusal
 use Rattle.project_file.proofs.OneRefusal.{JsonLaws, one_refusal, accepted_is_not_refused, one_file}
+use Rattle.project_file.specs.Refusals.{IsProject}
 use Rattle.project_check.specs.Loaded.{Loads as LoadsProject}
-use Rattle.first_projects.specs.FirstProject.{Project}
-use Rattle.first_projects.specs.FirstForm.{project_of}
-use Rattle.sequencer.specs.Frame.{first_world}
+use Rattle.script_machine.specs.Program.{Program}
+use Rattle.rand_core.specs.Stream.{Stream}
+use Rattle.script_words.specs.Words.{without, answers, seeded}
+use Rattle.script_machine.specs.Words.{Words}
 use Rattle.player.specs.Limits.{project_limit, script_limit}
 use Rattle.player.specs.Command.{Form}
-use Rattle.player.specs.Lines.{lines_of}
-use Rattle.player.specs.Output.{RunEnding, whole, played}
-use Rattle.player.specs.Promise.{Loading, refused, accepted, IsNotFirstForm, Loads, Checks, counts_of, OfFile, missing, too_large, not_accepted, unloaded, ran, Ending, Outcome, ends, all_of, fetched, loaded, IsFetched, IsLoaded, AnswerCause, Wrote, FetchesOf}
+use Rattle.player.proofs.Programs.{one_program}
+use Rattle.player.specs.Promise.{Loading, refused, accepted, Loads, Checks, counts_of, OfFile, missing, too_large, not_accepted, unloaded, told, ran, is_whole, words_of, output_of, Ending, Outcome, ends, all_of, fetched, loaded, IsFetched, IsLoaded, AnswerCause, Wrote, FetchesOf}
 use Rattle.player.specs.Stages.{Fetched, Loaded, RefusedAs, PlayedTo}
 use Rattle.player.specs.Told.{text_of_refusal}
 use Rattle.player.specs.declared.counts.Counts.{Counts}
 use Rattle.player.specs.declared.status.Which.{Which}
 use Rattle.player.specs.declared.status.Which.TheVariants as which
-use Rattle.player.specs.declared.script.LineRefusal.TheVariants as line_refusal
 use Rattle.player.specs.declared.status.Status.{Status}
-use Rattle.player.specs.declared.status.Status.TheVariants.{Done, Usage, ReadFault, WriteFault, BadProject, BadScript, TooLarge, NoMemory}
+use Rattle.player.specs.declared.status.Status.TheVariants.{Done, Usage, ReadFault, WriteFault, BadProject, BadScript, Limit, TooLarge, NoMemory}
 
 -- a file that is held and within its limit
 fetched_ok : (file : Which) (limit : ℕ) (o : Option (List ℕ)) (bytes : List ℕ) (next : List ℕ → Outcome) → o ≡ Some bytes → length bytes ≤ limit → fetched file limit o next ≡ next bytes
@@ -63,34 +59,6 @@ pub record IsReading {A : Type 0} (reads : Loading A → Type 0) : Type 0 where
   pub same : (a b : A) → reads (accepted a) → reads (accepted b) → b ≡ a
   pub apart : (a : A) (r : Refusal) → reads (accepted a) → reads (refused r) → ⊥
 
--- the first form
-
-one_project : (bytes : List ℕ) (p q : Project) → Loads bytes (accepted p) → Loads bytes (accepted q) → q ≡ p
-one_project bytes p q a b =
-    let same = json_one_tree max_depth max_depth bytes b.0 a.0 b.1.1 a.1.1 in
-    let both : Some q ≡ Some p = sym b.2 ∙ ap project_of same ∙ a.2 in
-    cc
-
-one_first : (bytes : List ℕ) (r s : Refusal) → IsNotFirstForm bytes r → IsNotFirstForm bytes s → r ≡ s
-one_first bytes (refusal.Json f) (refusal.Json g) a b = ap refusal.Json (same_fault max_depth bytes f g a b)
-one_first bytes (refusal.Json f) (refusal.Shape q) a b = absurd (text_no_fault max_depth bytes b.1.0 f b.1.1 a)
-one_first bytes (refusal.Shape p) (refusal.Json g) a b = absurd (text_no_fault max_depth bytes a.1.0 g a.1.1 b)
-one_first bytes (refusal.Shape p) (refusal.Shape q) a b = let e = a.0 in let f = b.0 in cc (e, f)
-one_first bytes (refusal.Json f) s a b = absurd b
-one_first bytes (refusal.Shape p) s a b = absurd b
-one_first bytes r s a b = absurd a
-
-first_apart : (bytes : List ℕ) (p : Project) (r : Refusal) → Loads bytes (accepted p) → IsNotFirstForm bytes r → ⊥
-first_apart bytes p (refusal.Json f) a b = text_no_fault max_depth bytes a.0 f a.1 b
-first_apart bytes p (refusal.Shape path) a b =
-    let same = json_one_tree max_depth max_depth bytes b.1.0 a.0 b.1.1.1 a.1.1 in
-    let both : None ≡ Some p = sym b.1.2 ∙ ap project_of same ∙ a.2 in
-    cc
-first_apart bytes p r a b = b
-
-pub first_reading : (bytes : List ℕ) → IsReading (Loads bytes)
-first_reading bytes = record { one = one_first bytes; same = one_project bytes; apart = first_apart bytes }
-
 -- the whole project
 
 json_laws : JsonLaws
@@ -105,13 +73,19 @@ check_apart bytes c r a b = accepted_is_not_refused json_laws bytes a.0 r a.1 b
 pub check_reading : (bytes : List ℕ) → IsReading (Checks bytes)
 check_reading bytes = record { one = one_refusal json_laws bytes; same = one_count bytes; apart = check_apart bytes }
 
+project_apart : (bytes : List ℕ) (p : Program) (r : Refusal) → Loads bytes (accepted p) → Loads bytes (refused r) → ⊥
+project_apart bytes p r a b = accepted_is_not_refused json_laws bytes a.0 r a.1 b
+
+pub project_reading : (bytes : List ℕ) → IsReading (Loads bytes)
+project_reading bytes = record { one = one_refusal json_laws bytes; same = λ p q a b. one_program json_laws bytes q p b a; apart = project_apart bytes }
+
 -- what goes on with a file that was accepted
 accepted_ok : {A : Type 0} (reads : Loading A → Type 0) → IsReading reads → (a : A) (loading : Loading A) (next : A → Outcome) → reads (accepted a) → reads loading → loaded loading next ≡ next a
 accepted_ok reads is a (refused r) next p q = absurd (is.apart a r p q)
 accepted_ok reads is a (accepted b) next p q = ap next (is.same a b p q)
 
-abbrev pub after_load : Form → Files → Project → Outcome
-after_load form files p = fetched which.Script script_limit (get files form.script) (λ script. all_of (played p 1 (first_world p) (lines_of script)))
+abbrev pub after_load : Form → Files → Program → Outcome
+after_load form files p = fetched which.Script script_limit (get files form.script) (λ script. all_of (output_of p (words_of form.seed) script))
 
 -- Where a project file was fetched
 
@@ -143,11 +117,11 @@ at_accepted reads next P (Some files) name bytes a is h p k = λ loading l.
     ∙ accepted_ok (reads bytes) is a loading (next files) p (read_bytes reads (get files name) bytes loading h.is l)))
     k
 
-pub at_end : (P : Outcome → Type 0) (held : Option Files) (form : Form) (script : List ℕ) (p : Project) → IsFetchedFile held form.script script_limit script
-    → P (all_of (played p 1 (first_world p) (lines_of script))) → IfSome held (λ files. P (after_load form files p))
+pub at_end : (P : Outcome → Type 0) (held : Option Files) (form : Form) (script : List ℕ) (p : Program) → IsFetchedFile held form.script script_limit script
+    → P (all_of (output_of p (words_of form.seed) script)) → IfSome held (λ files. P (after_load form files p))
 at_end P None form script p h q = tt
 at_end P (Some files) form script p h q =
-    subst P (sym (fetched_ok which.Script script_limit (get files form.script) script (λ s. all_of (played p 1 (first_world p) (lines_of s))) h.is h.small)) q
+    subst P (sym (fetched_ok which.Script script_limit (get files form.script) script (λ s. all_of (output_of p (words_of form.seed) s)) h.is h.small)) q
 
 pub everywhere : {P : Type 0} (held : Option Files) → P → IfSome held (λ files. P)
 everywhere None p = tt
@@ -159,9 +133,9 @@ script_ending : (b : Bool) (o : Outcome) → IsLoaded o.ending → IsLoaded (con
 script_ending true o h = tt
 script_ending false o h = h
 
-loaded_ending : (o : Option (List ℕ)) (p : Project) → IsLoaded (fetched which.Script script_limit o (λ script. all_of (played p 1 (first_world p) (lines_of script)))).ending
-loaded_ending None p = tt
-loaded_ending (Some script) p = script_ending (ltb script_limit (length script)) (all_of (played p 1 (first_world p) (lines_of script))) tt
+loaded_ending : (o : Option (List ℕ)) (p : Program) (seed : ℕ) → IsLoaded (fetched which.Script script_limit o (λ script. all_of (output_of p (words_of seed) script))).ending
+loaded_ending None p seed = tt
+loaded_ending (Some script) p seed = script_ending (ltb script_limit (length script)) (all_of (output_of p (words_of seed) script)) tt
 
 is_fetched : (ending : Ending) → IsLoaded ending → IsFetched ending
 is_fetched (unloaded (missing which.Project)) h = absurd h
@@ -169,10 +143,11 @@ is_fetched (unloaded (missing which.Script)) h = tt
 is_fetched (unloaded (too_large which.Project limit)) h = absurd h
 is_fetched (unloaded (too_large which.Script limit)) h = tt
 is_fetched (unloaded (not_accepted r)) h = tt
+is_fetched told h = tt
 is_fetched (ran ending) h = tt
 
-pub loaded_fetched : (form : Form) (files : Files) (p : Project) → IsFetched (after_load form files p).ending
-loaded_fetched form files p = is_fetched _ (loaded_ending (get files form.script) p)
+pub loaded_fetched : (form : Form) (files : Files) (p : Program) → IsFetched (after_load form files p).ending
+loaded_fetched form files p = is_fetched _ (loaded_ending (get files form.script) p form.seed)
 
 -- A project that is refused.
 
@@ -187,6 +162,7 @@ refused_cause reads view is failed wanted Usage next k h loading q = absurd h
 refused_cause reads view is failed wanted ReadFault next k h loading q = absurd h
 refused_cause reads view is failed wanted WriteFault next k h loading q = absurd h
 refused_cause reads view is failed wanted (BadScript r) next k h loading q = absurd h
+refused_cause reads view is failed wanted (Limit l) next k h loading q = absurd h
 refused_cause reads view is failed wanted (TooLarge file limit) next k h loading q = absurd h
 
 -- a refusal of a reader, told
@@ -198,17 +174,11 @@ refused_load reads view r Usage h k = absurd h
 refused_load reads view r ReadFault h k = absurd h
 refused_load reads view r WriteFault h k = absurd h
 refused_load reads view r (BadScript l) h k = absurd h
+refused_load reads view r (Limit l) h k = absurd h
 refused_load reads view r (TooLarge file l) h k = absurd h
 
--- a JSON fault
-pub json_cause : (bytes : List ℕ) (f : JsonRefusal) → IsCause max_depth bytes f → IsSome (text_of_refusal (refusal.Json f)) → Loads bytes (refused (refusal.Json f))
-json_cause bytes (json_refusal.NotUtf8 at) h k = h
-json_cause bytes (json_refusal.Syntax at) h k = h
-json_cause bytes (json_refusal.TooDeep at) h k = h
-json_cause bytes json_refusal.NoMemory h k = cc k
-
 -- a refusal of the loader
-pub load_cause : (bytes : List ℕ) (r : Refusal) → LoadsProject bytes (Err r) → IsSome (text_of_refusal r) → Checks bytes (refused r)
+load_cause : (bytes : List ℕ) (r : Refusal) → LoadsProject bytes (Err r) → IsSome (text_of_refusal r) → Checks bytes (refused r)
 load_cause bytes (refusal.Json f) h k = h
 load_cause bytes (refusal.Shape path) h k = h
 load_cause bytes (refusal.StageCount n) h k = h
@@ -222,13 +192,19 @@ load_cause bytes (refusal.Field at field) h k = h
 load_cause bytes (refusal.TooDeep at) h k = h
 load_cause bytes refusal.NoMemory h k = cc k
 
+pub count_cause : (bytes : List ℕ) (r : Refusal) → LoadsProject bytes (Err r) → IsSome (text_of_refusal r) → Checks bytes (refused r)
+count_cause bytes r h k = load_cause bytes r h k
+
+pub project_cause : (bytes : List ℕ) (r : Refusal) → LoadsProject bytes (Err r) → IsSome (text_of_refusal r) → Loads bytes (refused r)
+project_cause bytes r h k = load_cause bytes r h k
+
 -- A script that is not fetched.
 
-script_cause : (A : Type 0) (items : A → List ℕ) (files : Files) (form : Form) (p : Project) (failed wanted script_failed script_wanted : Type 0) (status : Status)
+script_cause : (A : Type 0) (items : A → List ℕ) (files : Files) (form : Form) (p : Program) (failed wanted script_failed script_wanted : Type 0) (status : Status)
     → Fetched (Some files) form.script which.Script script_limit script_failed script_wanted items (Err status) → AnswerCause failed wanted (after_load form files p).ending status
-script_cause A items files form p failed wanted f w ReadFault h = inr (loaded_ending (get files form.script) p)
+script_cause A items files form p failed wanted f w ReadFault h = inr (loaded_ending (get files form.script) p form.seed)
 script_cause A items files form p failed wanted f w (TooLarge file limit) h =
-    ap (λ (o : Outcome). o.ending) (fetched_large which.Script script_limit (get files form.script) (λ script. all_of (played p 1 (first_world p) (lines_of script))) h.2)
+    ap (λ (o : Outcome). o.ending) (fetched_large which.Script script_limit (get files form.script) (λ script. all_of (output_of p (words_of form.seed) script)) h.2)
     ∙ ap (λ x. unloaded (too_large x script_limit)) (sym h.0) ∙ ap (λ l. unloaded (too_large file l)) (sym h.1)
 script_cause A items files form p failed wanted f w NoMemory h = inr (loaded_fetched form files p)
 script_cause A items files form p failed wanted f w Done h = absurd h
@@ -236,8 +212,9 @@ script_cause A items files form p failed wanted f w Usage h = absurd h
 script_cause A items files form p failed wanted f w WriteFault h = absurd h
 script_cause A items files form p failed wanted f w (BadProject r) h = absurd h
 script_cause A items files form p failed wanted f w (BadScript r) h = absurd h
+script_cause A items files form p failed wanted f w (Limit l) h = absurd h
 
-pub script_causes : (A : Type 0) (items : A → List ℕ) (held : Option Files) (form : Form) (p : Project) (failed wanted script_failed script_wanted : Type 0) (status : Status)
+pub script_causes : (A : Type 0) (items : A → List ℕ) (held : Option Files) (form : Form) (p : Program) (failed wanted script_failed script_wanted : Type 0) (status : Status)
     → Fetched held form.script which.Script script_limit script_failed script_wanted items (Err status) → IfSome held (λ files. AnswerCause failed wanted (after_load form files p).ending status)
 script_causes A items None form p failed wanted f w status h = tt
 script_causes A items (Some files) form p failed wanted f w status h = script_cause A items files form p failed wanted f w status h
@@ -253,6 +230,7 @@ unfetched_wrote A items held name file limit failed wanted Usage old frames h = 
 unfetched_wrote A items held name file limit failed wanted WriteFault old frames h = absurd h
 unfetched_wrote A items held name file limit failed wanted (BadProject r) old frames h = absurd h
 unfetched_wrote A items held name file limit failed wanted (BadScript r) old frames h = absurd h
+unfetched_wrote A items held name file limit failed wanted (Limit l) old frames h = absurd h
 
 project_is_no_script : which.Project ≡ which.Script → ⊥
 project_is_no_script e = cc
@@ -269,21 +247,24 @@ script_fetches A items held name limit failed wanted Usage h = absurd h
 script_fetches A items held name limit failed wanted WriteFault h = absurd h
 script_fetches A items held name limit failed wanted (BadProject r) h = absurd h
 script_fetches A items held name limit failed wanted (BadScript r) h = absurd h
+script_fetches A items held name limit failed wanted (Limit l) h = absurd h
 
--- The lines were played.
-pub played_cause : (ending : RunEnding) (failed wanted write_failed : Type 0) (status : Status) → PlayedTo ending write_failed status → AnswerCause failed wanted (ran ending) status
-played_cause ending failed wanted write_failed Done h = ap ran h
-played_cause ending failed wanted write_failed (BadScript (line_refusal.UnknownLine line)) h = ap ran h
-played_cause ending failed wanted write_failed WriteFault h = tt
-played_cause ending failed wanted write_failed NoMemory h = inr tt
-played_cause ending failed wanted write_failed Usage h = h
-played_cause ending failed wanted write_failed ReadFault h = absurd h
-played_cause ending failed wanted write_failed (BadProject r) h = absurd h
-played_cause ending failed wanted write_failed (TooLarge file limit) h = absurd h
+-- The lines were played, or the counts were told.
+pub played_cause : (ending : Ending) (failed wanted write_failed : Type 0) (status : Status) → IsLoaded ending → PlayedTo ending write_failed status → AnswerCause failed wanted ending status
+played_cause ending failed wanted write_failed Done l h = h
+played_cause ending failed wanted write_failed (BadScript r) l h = h
+played_cause ending failed wanted write_failed (Limit m) l h = h
+played_cause ending failed wanted write_failed WriteFault l h = l
+played_cause ending failed wanted write_failed NoMemory l h = inr (is_fetched ending l)
+played_cause ending failed wanted write_failed Usage l h = h
+played_cause ending failed wanted write_failed ReadFault l h = absurd h
+played_cause ending failed wanted write_failed (BadProject r) l h = absurd h
+played_cause ending failed wanted write_failed (TooLarge file limit) l h = absurd h
 
-pub played_fetches : (ending : RunEnding) (write_failed : Type 0) (status : Status) → PlayedTo ending write_failed status → FetchesOf 2 status 2
+pub played_fetches : (ending : Ending) (write_failed : Type 0) (status : Status) → PlayedTo ending write_failed status → FetchesOf 2 status 2
 played_fetches ending write_failed Done h = refl
 played_fetches ending write_failed (BadScript r) h = refl
+played_fetches ending write_failed (Limit l) h = refl
 played_fetches ending write_failed WriteFault h = refl
 played_fetches ending write_failed NoMemory h = omega arith
 played_fetches ending write_failed Usage h = absurd h
@@ -291,13 +272,18 @@ played_fetches ending write_failed ReadFault h = absurd h
 played_fetches ending write_failed (BadProject r) h = absurd h
 played_fetches ending write_failed (TooLarge file limit) h = absurd h
 
--- The counts were told.
-pub told_fetches : (write_failed : Type 0) (status : Status) → PlayedTo whole write_failed status → FetchesOf 1 status 1
-told_fetches write_failed Done h = refl
-told_fetches write_failed (BadScript r) h = refl
-told_fetches write_failed WriteFault h = refl
-told_fetches write_failed NoMemory h = omega arith
-told_fetches write_failed Usage h = absurd h
-told_fetches write_failed ReadFault h = absurd h
-told_fetches write_failed (BadProject r) h = absurd h
-told_fetches write_failed (TooLarge file limit) h = absurd h
+pub told_fetches : (ending : Ending) (write_failed : Type 0) (status : Status) → PlayedTo ending write_failed status → FetchesOf 1 status 1
+told_fetches ending write_failed Done h = refl
+told_fetches ending write_failed (BadScript r) h = refl
+told_fetches ending write_failed (Limit l) h = refl
+told_fetches ending write_failed WriteFault h = refl
+told_fetches ending write_failed NoMemory h = omega arith
+told_fetches ending write_failed Usage h = absurd h
+told_fetches ending write_failed ReadFault h = absurd h
+told_fetches ending write_failed (BadProject r) h = absurd h
+told_fetches ending write_failed (TooLarge file limit) h = absurd h
+
+-- The words of a seed.
+pub seeded_words : (seed drawn : ℕ) (stream : Stream) → drawn ≡ 0 → stream ≡ without 0 (answers (seeded seed)) → record { stream = stream; drawn = drawn } ≡ words_of seed
+unfolding without
+seeded_words seed drawn stream e f = cc (e, f)

@@ -1,8 +1,6 @@
-mod Rows
-pub mod Cuts
 pub mod Parsed
-pub mod LineWords
-pub mod Texts
-pub mod TargetLines
+pub mod Programs
 pub mod Outputs
+pub mod Turns
 pub mod Calls
+pub mod Dressed

@@ -4,21 +4,22 @@ use Rattle.player.specs.WholeNumbers.{whole_up_to}
 use Rattle.player.specs.declared.command.Command.{Command as CommandOfWords}
 use Rattle.player.specs.declared.command.Command.TheVariants as words
 
--- the names of the files in `play PROJECT SCRIPT SEED -`
+-- the names of the files and the seed in `play PROJECT SCRIPT SEED -`
 pub record Form : Type 0 where
   pub project : List ℕ
   pub script : List ℕ
+  pub seed : ℕ
 
 -- what the words ask for: to play a project, or to check the project in a file
 pub data Command : Type 0 where
   play : Form → Command
   check : (project : List ℕ) → Command
 
--- the seed is a whole number below 2^64; this form of a project draws no random word
+-- the seed is a whole number below 2^64
 abbrev pub play_by : List ℕ → List ℕ → List ℕ → List ℕ → Option ℕ → List ℕ → Option Command
 play_by command project script seed None save = None
 play_by command project script seed (Some number) save =
-    if bytes_eq command (codes "play") && bytes_eq save (codes "-") then Some (play (record { project = project; script = script })) else None
+    if bytes_eq command (codes "play") && bytes_eq save (codes "-") then Some (play (record { project = project; script = script; seed = number })) else None
 
 -- `check PROJECT`
 abbrev pub check_by : List ℕ → List ℕ → Option Command
@@ -32,5 +33,5 @@ command_of words = None
 
 -- a helper of private functions: a command without where its words lie in memory
 abbrev pub command_view : CommandOfWords → Command
-command_view (words.Play project script) = play (record { project = project.now; script = script.now })
+command_view (words.Play project script seed) = play (record { project = project.now; script = script.now; seed = seed })
 command_view (words.Check project) = check project.now

@@ -1,13 +1,6 @@
 pub mod WholeNumbers
 pub mod Limits
 pub mod Command
-pub mod GoodLine
-pub mod Lines
-pub mod ScriptState
-pub mod Script
-pub mod FrameText
-pub mod SpriteLine
-pub mod Output
 pub mod Promise
 pub mod Stages
 pub mod Told

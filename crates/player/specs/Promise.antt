@@ -1,39 +1,39 @@
 -- THE PROMISE OF `play`, in words that the files beside this one define.
 --
--- The machine that it speaks of is that of sequencer/specs: threads with lists of statements, slices, passes, frames.
--- A frame's text is that of FrameText; Output goes through the lines of a script; Command and Lines read words and lines;
--- Limits names the numbers. Which project files are accepted, and the refusal of the others, is that of
--- project_file/specs, Refusals.
-use Rattle.std.specs.Prelude.{◌≡◌, ◌⊎◌, ℕ, zero, suc, ◌<◌, ◌≤◌, nat_lt, List, [], ◌∷◌, length, take, codes, Option, None, Some, IfSome, IsSome, if◌then◌else◌}
+-- The machine that it speaks of is that of script_machine/specs: script trees, threads with what is left to do, slices,
+-- passes, frames. A frame's text is that of FrameText there; Output goes through the lines of a script, which ScriptText
+-- reads; Command reads the words; Limits names the numbers. Which project files are accepted, the refusal of the others, and
+-- the program of an accepted file, is that of project_file/specs, Refusals.
+use Rattle.std.specs.Prelude.{◌≡◌, ◌⊎◌, ℕ, zero, suc, ◌<◌, ◌≤◌, nat_lt, Bool, true, false, List, [], ◌∷◌, length, take, codes, Option, None, Some, IfSome, IsSome, if◌then◌else◌}
 use Rattle.std.specs.Fmt.{decimal}
 use Rattle.std.specs.List.{concat}
 use Rattle.std.specs.FinMap.{get}
 use Rattle.sv_channels.specs.Counts.{next_count, Rose, NoneRose}
 use Rattle.sv_channels.specs.Files.{Files}
 use Rattle.sv_channels.specs.Sink.{Gained, GainedPart}
-use Rattle.project_json.specs.Tree.{Tree}
-use Rattle.project_json.specs.Text.{IsText, max_depth}
-use Rattle.project_json.specs.Refusal.{IsFault}
+use Rattle.script_words.specs.Words.{answers, seeded}
+use Rattle.script_words.specs.declared.stops.Stop.{Stop}
+use Rattle.script_words.specs.declared.stops.Stop.TheVariants as stop
+use Rattle.script_machine.specs.Words.{Words}
+use Rattle.script_machine.specs.Program.{Program}
+use Rattle.script_machine.specs.First.{first_world}
+use Rattle.script_machine.specs.FrameText.{line}
+use Rattle.script_machine.specs.ScriptText.{lines_of}
+use Rattle.script_machine.specs.Output.{Output, Ending as RunEnding, Whole, BadLine, Limited, played}
 use Rattle.project_file.specs.Reading.{File, blocks_in}
-use Rattle.project_file.specs.Refusals.{IsRefusal, IsAccepted}
+use Rattle.project_file.specs.Refusals.{IsRefusal, IsAccepted, IsProject}
 use Rattle.project_file.specs.declared.refusals.Refusal.{Refusal}
-use Rattle.project_file.specs.declared.refusals.Refusal.TheVariants as refusal
 use Rattle.project_check.specs.Counts.{block_count}
-use Rattle.first_projects.specs.FirstProject.{Project}
-use Rattle.first_projects.specs.FirstForm.{project_of}
-use Rattle.sequencer.specs.Frame.{first_world}
 use Rattle.player.specs.Limits.{project_limit, script_limit}
 use Rattle.player.specs.Command.{Form, Command, play, check, command_of}
-use Rattle.player.specs.FrameText.{line}
-use Rattle.player.specs.Lines.{lines_of}
-use Rattle.player.specs.Output.{RunEnding, whole, bad_line, Played, played}
 use Rattle.player.specs.Told.{text_of_refusal}
 use Rattle.player.specs.declared.counts.Counts.{Counts}
+use Rattle.player.specs.declared.status.Limit.{Limit as LimitMet}
+use Rattle.player.specs.declared.status.Limit.TheVariants as limit
 use Rattle.player.specs.declared.status.Which.{Which}
 use Rattle.player.specs.declared.status.Which.TheVariants as which
-use Rattle.player.specs.declared.script.LineRefusal.TheVariants as line_refusal
 use Rattle.player.specs.declared.status.Status.{Status}
-use Rattle.player.specs.declared.status.Status.TheVariants.{Done, Usage, ReadFault, WriteFault, BadProject, BadScript, TooLarge, NoMemory}
+use Rattle.player.specs.declared.status.Status.TheVariants.{Done, Usage, ReadFault, WriteFault, BadProject, BadScript, Limit, TooLarge, NoMemory}
 
 -- 1. What a project file stands for
 
@@ -42,23 +42,16 @@ pub data Loading (A : Type 0) : Type 0 where
   refused : Refusal → Loading A
   accepted : A → Loading A
 
--- The bytes are no JSON text nested at most 256 deep (RFC 8259) and have this fault, or are one of a document that is
--- not of the first form.
-abbrev pub IsNotFirstForm : List ℕ → Refusal → Type 0
-IsNotFirstForm bytes (refusal.Json fault) = IsFault max_depth bytes fault
-IsNotFirstForm bytes (refusal.Shape path) = (path ≡ []) × ((t : Tree) × IsText max_depth bytes t × (project_of t ≡ None))
-IsNotFirstForm bytes _ = ⊥
-
--- what is played today: a project of the first form
-abbrev pub Loads : List ℕ → Loading Project → Type 0
-Loads bytes (refused r) = IsNotFirstForm bytes r
-Loads bytes (accepted p) = (t : Tree) × IsText max_depth bytes t × (project_of t ≡ Some p)
+-- what is played: the program of the file
+abbrev pub Loads : List ℕ → Loading Program → Type 0
+Loads bytes (refused r) = IsRefusal bytes r
+Loads bytes (accepted p) = IsProject bytes p
 
 -- how many targets and blocks a file has
 abbrev pub counts_of : File → Counts
 counts_of f = record { targets = length (blocks_in f); blocks = block_count (blocks_in f) }
 
--- what is checked: the whole project
+-- what is checked: how many there are
 abbrev pub Checks : List ℕ → Loading Counts → Type 0
 Checks bytes (refused r) = IsRefusal bytes r
 Checks bytes (accepted c) = (f : File) × IsAccepted bytes f × (c ≡ counts_of f)
@@ -76,8 +69,10 @@ pub data LoadEnding : Type 0 where
   too_large : Which → ℕ → LoadEnding
   not_accepted : Refusal → LoadEnding
 
+-- the files were not loaded; the counts of a project were told; or its script ended so
 pub data Ending : Type 0 where
   unloaded : LoadEnding → Ending
+  told : Ending
   ran : RunEnding → Ending
 
 -- the texts that are written, each by one write, and the ending
@@ -88,8 +83,8 @@ pub record Outcome : Type 0 where
 abbrev pub ends : LoadEnding → Outcome
 ends ending = record { texts = []; ending = unloaded ending }
 
-abbrev pub all_of : Played → Outcome
-all_of run = record { texts = run.frames; ending = ran run.ending }
+abbrev pub all_of : Output → Outcome
+all_of run = record { texts = run.writes; ending = ran run.ending }
 
 -- a file that is held and within its limit
 abbrev pub fetched : Which → ℕ → Option (List ℕ) → (List ℕ → Outcome) → Outcome
@@ -100,20 +95,28 @@ abbrev pub loaded : {A : Type 0} → Loading A → (A → Outcome) → Outcome
 loaded (refused r) next = ends (not_accepted r)
 loaded (accepted a) next = next a
 
--- fetch and load the project (32 MiB), fetch the script (16 MiB), play its lines from the first world on
-abbrev pub outcome_of : Files → Form → Loading Project → Outcome
+-- the random words of a seed, of which none was drawn
+abbrev pub words_of : (seed : ℕ) → Words
+words_of seed = record { stream = answers (seeded seed); drawn = 0 }
+
+-- the lines of a script, the first of which has the number 1, from the first world on; the clock stands at 0 before them
+abbrev pub output_of : Program → Words → (script : List ℕ) → Output
+output_of p words script = played p 1 0 (first_world p words) (lines_of script)
+
+-- fetch and load the project (32 MiB), fetch the script (16 MiB), play its lines
+abbrev pub outcome_of : Files → Form → Loading Program → Outcome
 outcome_of files form loading =
     fetched which.Project project_limit (get files form.project) (λ project.
     loaded loading (λ p.
     fetched which.Script script_limit (get files form.script) (λ script.
-    all_of (played p 1 (first_world p) (lines_of script)))))
+    all_of (output_of p (words_of form.seed) script))))
 
 -- `accepted T B`: T targets and B blocks
 abbrev pub accepted_line : Counts → List ℕ
 accepted_line c = line (codes "accepted" ∷ decimal c.targets ∷ decimal c.blocks ∷ [])
 
 abbrev pub told_counts : Counts → Outcome
-told_counts c = record { texts = accepted_line c ∷ []; ending = ran whole }
+told_counts c = record { texts = accepted_line c ∷ []; ending = told }
 
 -- fetch the project (32 MiB), check it, and tell its counts
 abbrev pub check_outcome : Files → List ℕ → Loading Counts → Outcome
@@ -131,11 +134,26 @@ abbrev pub FetchFailed : (List ℕ → ℕ) → (List ℕ → ℕ) → Command �
 FetchFailed before after (play form) = Rose (before form.project) (after form.project) ⊎ Rose (before form.script) (after form.script)
 FetchFailed before after (check project) = Rose (before project) (after project)
 
+-- all was done: the counts were told, or the script was played to its end
+abbrev pub is_whole : Ending → Bool
+is_whole (unloaded e) = false
+is_whole told = true
+is_whole (ran (Whole last)) = true
+is_whole (ran (BadLine r)) = false
+is_whole (ran (Limited s)) = false
+
+-- the stop of a limit
+abbrev pub stop_of : LimitMet → Stop
+stop_of limit.Stack = stop.Stack
+stop_of (limit.Text n) = stop.Text n
+stop_of (limit.Counter which) = stop.Counter which
+
 -- the status tells the ending
 abbrev pub Tells : Status → Ending → Type 0
-Tells Done ending = ending ≡ ran whole
+Tells Done ending = is_whole ending ≡ true
 Tells (BadProject r) ending = ending ≡ unloaded (not_accepted r)
-Tells (BadScript (line_refusal.UnknownLine line)) ending = ending ≡ ran (bad_line line)
+Tells (BadScript r) ending = ending ≡ ran (BadLine r)
+Tells (Limit l) ending = ending ≡ ran (Limited (stop_of l))
 Tells (TooLarge file limit) ending = ending ≡ unloaded (too_large file limit)
 Tells Usage ending = ⊥
 Tells ReadFault ending = ⊥
@@ -149,6 +167,7 @@ IsFetched (unloaded (missing which.Script)) = Unit {0}
 IsFetched (unloaded (too_large which.Project limit)) = ⊥
 IsFetched (unloaded (too_large which.Script limit)) = Unit {0}
 IsFetched (unloaded (not_accepted r)) = Unit {0}
+IsFetched told = Unit {0}
 IsFetched (ran ending) = Unit {0}
 
 -- and it is accepted
@@ -158,6 +177,7 @@ IsLoaded (unloaded (missing which.Script)) = Unit {0}
 IsLoaded (unloaded (too_large which.Project limit)) = ⊥
 IsLoaded (unloaded (too_large which.Script limit)) = Unit {0}
 IsLoaded (unloaded (not_accepted r)) = ⊥
+IsLoaded told = Unit {0}
 IsLoaded (ran ending) = Unit {0}
 
 -- a fault only where its count rose; want of memory stands in no other status
@@ -168,6 +188,7 @@ FaultCause fetch_failed write_failed Done = Unit {0}
 FaultCause fetch_failed write_failed Usage = Unit {0}
 FaultCause fetch_failed write_failed (BadProject r) = IsSome (text_of_refusal r)
 FaultCause fetch_failed write_failed (BadScript r) = Unit {0}
+FaultCause fetch_failed write_failed (Limit l) = Unit {0}
 FaultCause fetch_failed write_failed (TooLarge file limit) = Unit {0}
 FaultCause fetch_failed write_failed NoMemory = Unit {0}
 
@@ -181,6 +202,7 @@ AnswerCause project_failed wanted ending Usage = ⊥
 AnswerCause project_failed wanted ending Done = Tells Done ending
 AnswerCause project_failed wanted ending (BadProject r) = Tells (BadProject r) ending
 AnswerCause project_failed wanted ending (BadScript r) = Tells (BadScript r) ending
+AnswerCause project_failed wanted ending (Limit l) = Tells (Limit l) ending
 AnswerCause project_failed wanted ending (TooLarge file limit) = Tells (TooLarge file limit) ending
 
 -- no fetch failed in this call unless it is told, and no write failed unless it is told
@@ -191,16 +213,18 @@ HidesNothing fetches fetches_now writes writes_now Done = NoneRose fetches fetch
 HidesNothing fetches fetches_now writes writes_now Usage = NoneRose fetches fetches_now × (writes_now ≡ writes)
 HidesNothing fetches fetches_now writes writes_now (BadProject r) = NoneRose fetches fetches_now × (writes_now ≡ writes)
 HidesNothing fetches fetches_now writes writes_now (BadScript r) = NoneRose fetches fetches_now × (writes_now ≡ writes)
+HidesNothing fetches fetches_now writes writes_now (Limit l) = NoneRose fetches fetches_now × (writes_now ≡ writes)
 HidesNothing fetches fetches_now writes writes_now (TooLarge file limit) = NoneRose fetches fetches_now × (writes_now ≡ writes)
 HidesNothing fetches fetches_now writes writes_now NoMemory = NoneRose fetches fetches_now × (writes_now ≡ writes)
 
 -- 4. What was written
 
--- all texts of the outcome; after a failed write a prefix of them; after want of memory whole ones; before any line
--- was played, nothing
+-- all texts of the outcome, the line of a limit last; after a failed write a prefix of them; after want of memory whole
+-- ones; before any line was played, nothing
 abbrev pub Wrote : Option (List ℕ) → Option (List ℕ) → List (List ℕ) → Status → Type 0
 Wrote old new texts Done = Gained old new (concat texts)
 Wrote old new texts (BadScript r) = Gained old new (concat texts)
+Wrote old new texts (Limit l) = Gained old new (concat texts)
 Wrote old new texts WriteFault = GainedPart old new (concat texts)
 Wrote old new texts NoMemory = (n : ℕ) × Gained old new (concat (take n texts))
 Wrote old new texts Usage = Gained old new []
@@ -217,6 +241,7 @@ IsSilent old new (TooLarge file limit) = Gained old new []
 IsSilent old new Done = Unit {0}
 IsSilent old new WriteFault = Unit {0}
 IsSilent old new (BadScript r) = Unit {0}
+IsSilent old new (Limit l) = Unit {0}
 IsSilent old new NoMemory = Unit {0}
 
 -- 5. How many calls were made
@@ -239,6 +264,7 @@ FetchesOf files (TooLarge which.Project limit) n = n ≡ 1
 FetchesOf files (TooLarge which.Script limit) n = n ≡ 2
 FetchesOf files Done n = n ≡ files
 FetchesOf files (BadScript r) n = n ≡ files
+FetchesOf files (Limit l) n = n ≡ files
 FetchesOf files WriteFault n = n ≡ files
 FetchesOf files ReadFault n = (1 ≤ n) × (n ≤ files)
 FetchesOf files NoMemory n = n ≤ files
@@ -256,6 +282,7 @@ FetchesFor before after (Some command) status = Fetches before after (files_of c
 abbrev pub Writes : ℕ → ℕ → List (List ℕ) → Status → Type 0
 Writes before after texts Done = after ≡ counted (length texts) before
 Writes before after texts (BadScript r) = after ≡ counted (length texts) before
+Writes before after texts (Limit l) = after ≡ counted (length texts) before
 Writes before after texts WriteFault = (n : ℕ) × (n < length texts) × (after ≡ counted (suc n) before)
 Writes before after texts NoMemory = (n : ℕ) × (n ≤ length texts) × (after ≡ counted n before)
 Writes before after texts Usage = after ≡ before
@@ -267,7 +294,7 @@ Writes before after texts (TooLarge file limit) = after ≡ before
 
 abbrev pub Promised : Option Files → Command → (Outcome → Type 0) → Type 0
 Promised held (play form) fact =
-    IfSome held (λ files. (loading : Loading Project) → OfFile Loads (get files form.project) loading → fact (outcome_of files form loading))
+    IfSome held (λ files. (loading : Loading Program) → OfFile Loads (get files form.project) loading → fact (outcome_of files form loading))
 Promised held (check project) fact =
     IfSome held (λ files. (loading : Loading Counts) → OfFile Checks (get files project) loading → fact (check_outcome files project loading))
 

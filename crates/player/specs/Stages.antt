@@ -1,19 +1,29 @@
 -- Helpers of private functions: what the stages of a call answer and count. They are a fetch, a load, a line, and the
 -- lines of a script.
-use Rattle.std.specs.Prelude.{◌≡◌, ℕ, ◌≤◌, List, [], length, Option, Result, Ok, Err, IsSome, ⊤}
+use Rattle.std.specs.Prelude.{◌≡◌, ◌≢◌, ℕ, ◌≤◌, true, List, [], ◌∷◌, length, Option, None, Some, Result, Ok, Err, IsSome, ⊤}
 use Rattle.std.specs.List.{concat}
 use Rattle.sv_channels.specs.Counts.{NoneRose}
 use Rattle.sv_channels.specs.Files.{Files}
 use Rattle.sv_channels.specs.Shelf.{IsHeld, IsHeldAbove}
 use Rattle.sv_channels.specs.Sink.{Gained, GainedPart}
-use Rattle.player.specs.Output.{RunEnding, whole, bad_line}
+use Rattle.script_words.specs.declared.stops.Stop.{Stop}
+use Rattle.script_words.specs.declared.stops.Stop.TheVariants as stop
+use Rattle.script_machine.specs.declared.lines.Line.{Line}
+use Rattle.script_machine.specs.declared.lines.LineRefusal.{LineRefusal}
+use Rattle.script_machine.specs.declared.lines.LineRefusal.TheVariants as line_refusal
+use Rattle.script_machine.specs.Outcome.{Outcome as MachineOutcome, Goes, Full, TooLong, Spent}
+use Rattle.script_machine.specs.Program.{Program}
+use Rattle.script_machine.specs.World.{World}
+use Rattle.script_machine.specs.Tasks.{Task}
+use Rattle.script_machine.specs.Output.{written, limit_line, BadLine, Limited}
 use Rattle.project_file.specs.declared.refusals.Refusal.{Refusal}
 use Rattle.player.specs.Told.{text_of_refusal}
-use Rattle.player.specs.Promise.{Loading, refused, accepted, counted}
+use Rattle.player.specs.Promise.{Loading, refused, accepted, counted, Ending, ran, is_whole, stop_of}
+use Rattle.player.specs.declared.status.Limit.{Limit as LimitMet}
+use Rattle.player.specs.declared.status.Limit.TheVariants as limit
 use Rattle.player.specs.declared.status.Which.{Which}
-use Rattle.player.specs.declared.script.LineRefusal.TheVariants as line_refusal
 use Rattle.player.specs.declared.status.Status.{Status}
-use Rattle.player.specs.declared.status.Status.TheVariants.{Done, Usage, ReadFault, WriteFault, BadProject, BadScript, TooLarge, NoMemory}
+use Rattle.player.specs.declared.status.Status.TheVariants.{Done, Usage, ReadFault, WriteFault, BadProject, BadScript, Limit, TooLarge, NoMemory}
 
 -- what a fetch answers
 abbrev pub Fetched : Option Files → List ℕ → Which → ℕ → Type 0 → Type 0 → {A : Type 0} → (A → List ℕ) → Result A Status → Type 0
@@ -26,6 +36,7 @@ Fetched held name which limit failed wanted items (Err Usage) = ⊥
 Fetched held name which limit failed wanted items (Err WriteFault) = ⊥
 Fetched held name which limit failed wanted items (Err (BadProject r)) = ⊥
 Fetched held name which limit failed wanted items (Err (BadScript r)) = ⊥
+Fetched held name which limit failed wanted items (Err (Limit l)) = ⊥
 
 -- a fetch that does not fail leaves each name's count of failures
 abbrev pub FetchedSteadily : (List ℕ → ℕ) → (List ℕ → ℕ) → {A : Type 0} → Result A Status → Type 0
@@ -38,6 +49,7 @@ FetchedSteadily before now (Err Usage) = ⊥
 FetchedSteadily before now (Err WriteFault) = ⊥
 FetchedSteadily before now (Err (BadProject r)) = ⊥
 FetchedSteadily before now (Err (BadScript r)) = ⊥
+FetchedSteadily before now (Err (Limit l)) = ⊥
 
 -- what a load answers, by what the file is read as
 abbrev pub Loaded : {A B : Type 0} → (Loading A → Type 0) → (B → A) → Result B Status → Type 0
@@ -49,6 +61,7 @@ Loaded reads view (Err Usage) = ⊥
 Loaded reads view (Err ReadFault) = ⊥
 Loaded reads view (Err WriteFault) = ⊥
 Loaded reads view (Err (BadScript r)) = ⊥
+Loaded reads view (Err (Limit l)) = ⊥
 Loaded reads view (Err (TooLarge file l)) = ⊥
 
 -- the status of a refused project: the refusal, unless it is want of memory
@@ -60,35 +73,99 @@ RefusedAs r Usage = ⊥
 RefusedAs r ReadFault = ⊥
 RefusedAs r WriteFault = ⊥
 RefusedAs r (BadScript l) = ⊥
+RefusedAs r (Limit l) = ⊥
 RefusedAs r (TooLarge file l) = ⊥
 
--- what the play of a line answers, and what it wrote then
+-- a status, and a stop, in place of an answer
+abbrev pub Told : Status → Result (Unit {0}) Status
+Told status = Err status
+
+abbrev pub Stopped : Stop → Result (Unit {0}) Stop
+Stopped s = Err s
+
+-- the limit of a stop; want of memory is none
+abbrev pub limit_in : Stop → Option Stop
+limit_in stop.Stack = Some stop.Stack
+limit_in (stop.Text n) = Some (stop.Text n)
+limit_in (stop.Counter which) = Some (stop.Counter which)
+limit_in stop.NoMemory = None
+
+-- what a write can end with
+abbrev pub IsWriteEnd : {A : Type 0} → Result A Status → Type 0
+IsWriteEnd (Ok u) = Unit {0}
+IsWriteEnd (Err WriteFault) = Unit {0}
+IsWriteEnd (Err NoMemory) = Unit {0}
+IsWriteEnd (Err other) = ⊥
+
+-- what the writing of the line of a limit can end with
+abbrev pub IsLimitEnd : LimitMet → Status → Type 0
+IsLimitEnd l (Limit m) = m ≡ l
+IsLimitEnd l WriteFault = Unit {0}
+IsLimitEnd l NoMemory = Unit {0}
+IsLimitEnd l other = ⊥
+
+-- how a refused line ends a run
+abbrev pub IsLineEnd : LineRefusal → Status → Type 0
+IsLineEnd r (BadScript s) = (s ≡ r) × (r ≢ line_refusal.NoMemory)
+IsLineEnd r NoMemory = r ≡ line_refusal.NoMemory
+IsLineEnd r other = ⊥
+
+-- what a line writes, by the world after it: the text of a frame, or the line of the limit that it reaches
+abbrev pub line_writes : Program → Line → MachineOutcome (World Task) → List (List ℕ)
+line_writes p l (Goes w) = written p l w
+line_writes p l Full = limit_line stop.Stack ∷ []
+line_writes p l (TooLong n) = limit_line (stop.Text n) ∷ []
+line_writes p l (Spent which) = limit_line (stop.Counter which) ∷ []
+
+-- the limit was met
+abbrev pub met : {A : Type 0} → LimitMet → MachineOutcome A
+met limit.Stack = Full
+met (limit.Text n) = TooLong n
+met (limit.Counter which) = Spent which
+
+-- what the play of a line answers, by the world after it
+abbrev pub LineEnds : {A T : Type 0} → MachineOutcome T → Result A Status → Type 0
+LineEnds o (Ok u) = Unit {0}
+LineEnds o (Err (Limit l)) = o ≡ met l
+LineEnds o (Err WriteFault) = Unit {0}
+LineEnds o (Err NoMemory) = Unit {0}
+LineEnds o (Err Done) = ⊥
+LineEnds o (Err Usage) = ⊥
+LineEnds o (Err ReadFault) = ⊥
+LineEnds o (Err (BadProject r)) = ⊥
+LineEnds o (Err (BadScript r)) = ⊥
+LineEnds o (Err (TooLarge file l)) = ⊥
+
+-- and what it wrote then
 abbrev pub LineWrote : Option (List ℕ) → Option (List ℕ) → List (List ℕ) → Type 0 → {A : Type 0} → Result A Status → Type 0
-LineWrote old new frames failed (Ok u) = Gained old new (concat frames)
-LineWrote old new frames failed (Err WriteFault) = failed × GainedPart old new (concat frames)
-LineWrote old new frames failed (Err NoMemory) = Gained old new []
-LineWrote old new frames failed (Err Done) = ⊥
-LineWrote old new frames failed (Err Usage) = ⊥
-LineWrote old new frames failed (Err ReadFault) = ⊥
-LineWrote old new frames failed (Err (BadProject r)) = ⊥
-LineWrote old new frames failed (Err (BadScript r)) = ⊥
-LineWrote old new frames failed (Err (TooLarge file l)) = ⊥
+LineWrote old new texts failed (Ok u) = Gained old new (concat texts)
+LineWrote old new texts failed (Err (Limit l)) = Gained old new (concat texts)
+LineWrote old new texts failed (Err WriteFault) = failed × GainedPart old new (concat texts)
+LineWrote old new texts failed (Err NoMemory) = Gained old new []
+LineWrote old new texts failed (Err Done) = ⊥
+LineWrote old new texts failed (Err Usage) = ⊥
+LineWrote old new texts failed (Err ReadFault) = ⊥
+LineWrote old new texts failed (Err (BadProject r)) = ⊥
+LineWrote old new texts failed (Err (BadScript r)) = ⊥
+LineWrote old new texts failed (Err (TooLarge file l)) = ⊥
 
 -- how many writes the play of a line called for
 abbrev pub LineWrites : ℕ → ℕ → List (List ℕ) → {A : Type 0} → Result A Status → Type 0
-LineWrites before after frames (Ok u) = after ≡ counted (length frames) before
-LineWrites before after frames (Err WriteFault) = (1 ≤ length frames) × (after ≡ counted 1 before)
-LineWrites before after frames (Err NoMemory) = (n : ℕ) × (n ≤ length frames) × (after ≡ counted n before)
-LineWrites before after frames (Err Done) = ⊥
-LineWrites before after frames (Err Usage) = ⊥
-LineWrites before after frames (Err ReadFault) = ⊥
-LineWrites before after frames (Err (BadProject r)) = ⊥
-LineWrites before after frames (Err (BadScript r)) = ⊥
-LineWrites before after frames (Err (TooLarge file l)) = ⊥
+LineWrites before after texts (Ok u) = after ≡ counted (length texts) before
+LineWrites before after texts (Err (Limit l)) = after ≡ counted (length texts) before
+LineWrites before after texts (Err WriteFault) = (1 ≤ length texts) × (after ≡ counted 1 before)
+LineWrites before after texts (Err NoMemory) = (n : ℕ) × (n ≤ length texts) × (after ≡ counted n before)
+LineWrites before after texts (Err Done) = ⊥
+LineWrites before after texts (Err Usage) = ⊥
+LineWrites before after texts (Err ReadFault) = ⊥
+LineWrites before after texts (Err (BadProject r)) = ⊥
+LineWrites before after texts (Err (BadScript r)) = ⊥
+LineWrites before after texts (Err (TooLarge file l)) = ⊥
 
 -- the play of a line in which no write failed leaves the count of failures
 abbrev pub LineSteadily : ℕ → ℕ → {A : Type 0} → Result A Status → Type 0
 LineSteadily before now (Ok u) = now ≡ before
+LineSteadily before now (Err (Limit l)) = now ≡ before
 LineSteadily before now (Err WriteFault) = ⊤
 LineSteadily before now (Err NoMemory) = now ≡ before
 LineSteadily before now (Err Done) = ⊥
@@ -99,9 +176,10 @@ LineSteadily before now (Err (BadScript r)) = ⊥
 LineSteadily before now (Err (TooLarge file l)) = ⊥
 
 -- what the play of all lines answers
-abbrev pub PlayedTo : RunEnding → Type 0 → Status → Type 0
-PlayedTo ending failed Done = ending ≡ whole
-PlayedTo ending failed (BadScript (line_refusal.UnknownLine line)) = ending ≡ bad_line line
+abbrev pub PlayedTo : Ending → Type 0 → Status → Type 0
+PlayedTo ending failed Done = is_whole ending ≡ true
+PlayedTo ending failed (BadScript r) = ending ≡ ran (BadLine r)
+PlayedTo ending failed (Limit l) = ending ≡ ran (Limited (stop_of l))
 PlayedTo ending failed WriteFault = failed
 PlayedTo ending failed NoMemory = Unit {0}
 PlayedTo ending failed Usage = ⊥
@@ -114,6 +192,7 @@ abbrev pub PlayedSteadily : ℕ → ℕ → Status → Type 0
 PlayedSteadily before now WriteFault = ⊤
 PlayedSteadily before now Done = now ≡ before
 PlayedSteadily before now (BadScript r) = now ≡ before
+PlayedSteadily before now (Limit l) = now ≡ before
 PlayedSteadily before now NoMemory = now ≡ before
 PlayedSteadily before now Usage = ⊥
 PlayedSteadily before now ReadFault = ⊥

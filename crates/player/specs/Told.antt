@@ -5,9 +5,10 @@ use Rattle.project_json.specs.declared.refusal.JsonRefusal.TheVariants as json_r
 use Rattle.project_file.specs.declared.refusals.MutationRefusal.TheVariants as mutation_refusal
 use Rattle.project_file.specs.declared.refusals.Refusal.{Refusal}
 use Rattle.project_file.specs.declared.refusals.Refusal.TheVariants as refusal
-use Rattle.player.specs.declared.script.LineRefusal.TheVariants as line_refusal
+use Rattle.script_machine.specs.declared.lines.LineRefusal.{LineRefusal}
+use Rattle.script_machine.specs.declared.lines.LineRefusal.TheVariants as line_refusal
 use Rattle.player.specs.declared.status.Status.{Status}
-use Rattle.player.specs.declared.status.Status.TheVariants.{Done, Usage, ReadFault, WriteFault, BadProject, BadScript, TooLarge, NoMemory}
+use Rattle.player.specs.declared.status.Status.TheVariants.{Done, Usage, ReadFault, WriteFault, BadProject, BadScript, Limit, TooLarge, NoMemory}
 
 -- the number of each refusal of a project; want of memory has none
 abbrev pub text_of_refusal : Refusal → Option (List ℕ)
@@ -30,6 +31,15 @@ text_of_refusal (refusal.Field at field) = Some (codes "BadProject P9")
 text_of_refusal (refusal.TooDeep at) = Some (codes "BadProject P10")
 text_of_refusal refusal.NoMemory = None
 
+-- the number of each refusal of a line, and the line, from 1; want of memory has none
+abbrev pub text_of_line : LineRefusal → List ℕ
+text_of_line (line_refusal.NotUtf8 line) = codes "BadScript 1 " ++ decimal line
+text_of_line (line_refusal.UnknownLine line) = codes "BadScript 2 " ++ decimal line
+text_of_line (line_refusal.BadNumber line) = codes "BadScript 3 " ++ decimal line
+text_of_line (line_refusal.OutOfRange line) = codes "BadScript 4 " ++ decimal line
+text_of_line (line_refusal.ClockBack line was is) = codes "BadScript 5 " ++ decimal line
+text_of_line line_refusal.NoMemory = codes "NoMemory"
+
 -- the name of the status, with the number of a project's refusal, or the number of a line's refusal and the line
 abbrev pub text_of_status : Status → List ℕ
 text_of_status Done = codes "Done"
@@ -37,7 +47,8 @@ text_of_status Usage = codes "Usage"
 text_of_status ReadFault = codes "ReadFault"
 text_of_status WriteFault = codes "WriteFault"
 text_of_status (BadProject r) = unwrap_or (text_of_refusal r) (codes "NoMemory")
-text_of_status (BadScript (line_refusal.UnknownLine line)) = codes "BadScript 2 " ++ decimal line
+text_of_status (BadScript r) = text_of_line r
+text_of_status (Limit l) = codes "Limit"
 text_of_status (TooLarge file limit) = codes "TooLarge"
 text_of_status NoMemory = codes "NoMemory"
 
@@ -45,13 +56,18 @@ abbrev pub exit_of_refusal : Option (List ℕ) → ℕ
 exit_of_refusal None = 9
 exit_of_refusal (Some text) = 4
 
+abbrev pub exit_of_line : LineRefusal → ℕ
+exit_of_line line_refusal.NoMemory = 9
+exit_of_line _ = 5
+
 abbrev pub exit_of_status : Status → ℕ
 exit_of_status Done = 0
 exit_of_status Usage = 1
 exit_of_status ReadFault = 2
 exit_of_status WriteFault = 3
 exit_of_status (BadProject r) = exit_of_refusal (text_of_refusal r)
-exit_of_status (BadScript r) = 5
+exit_of_status (BadScript r) = exit_of_line r
+exit_of_status (Limit l) = 7
 exit_of_status (TooLarge file limit) = 8
 exit_of_status NoMemory = 9
 

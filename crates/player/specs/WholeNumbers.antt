@@ -1,6 +1,5 @@
--- A whole number as a word, and the pieces of a line.
+-- A whole number as a word.
 use Rattle.std.specs.Prelude.{ℕ, nat_le, ◌==◌, ◌&&◌, ◌||◌, not, List, [], ◌∷◌, length, Bool, false, Option, None, Some, if◌then◌else◌}
-use Rattle.std.specs.List.{slice_split}
 use Rattle.std.specs.Str.{all_ascii_digits}
 use Rattle.std.specs.Str.Parse.{digits_value}
 
@@ -12,7 +11,3 @@ is_whole (d ∷ ds) = all_ascii_digits (d ∷ ds) && (not (d == 48) || length ds
 -- the whole number that the word writes, where it is at most this
 abbrev pub whole_up_to : ℕ → List ℕ → Option ℕ
 whole_up_to most word = if is_whole word && nat_le (digits_value 10 word) most then Some (digits_value 10 word) else None
-
--- the pieces between single spaces, empty ones included
-abbrev pub pieces : List ℕ → List (List ℕ)
-pieces text = slice_split (λ b. b == 32) text

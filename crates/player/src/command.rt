@@ -1,7 +1,8 @@
 //! What the command's words ask for.
 
-ghost use Rattle.std.specs.Prelude.{◌≡◌, map, string_bytes, option_map};
-ghost use Rattle.player.specs.Command.{check_by, command_of, command_view};
+ghost use Rattle.std.specs.Prelude.{◌≡◌, ◌^◌, ◌-◌, map, string_bytes, option_map};
+ghost use Rattle.player.specs.Command.{check_by, play_by, command_of, command_view};
+ghost use Rattle.player.specs.WholeNumbers.{whole_up_to};
 
 use crate::whole_numbers::whole_up_to;
 
@@ -9,9 +10,15 @@ use crate::whole_numbers::whole_up_to;
 #[derive(Clone, Copy, Debug)]
 pub enum Command<'a> {
     /// `play PROJECT SCRIPT SEED -`
-    Play { project: &'a str, script: &'a str },
+    Play {
+        project: &'a str,
+        script: &'a str,
+        seed: u64,
+    },
     /// `check PROJECT`
-    Check { project: &'a str },
+    Check {
+        project: &'a str,
+    },
 }
 
 /// The command of the words, or `None` where they have no form.
@@ -21,17 +28,36 @@ pub fn command_of(words: &[String]) -> Option<Command<'_>>
     match words {
         [command, project] => checking(command.as_str(), project.as_str()),
         [command, project, script, seed, save] => {
-            let seed = whole_up_to(seed.as_str(), u64::MAX);
-            if seed.is_some() && command.as_str() == "play" && save.as_str() == "-" {
-                Some(Command::Play {
-                    project: project.as_str(),
-                    script: script.as_str(),
-                })
-            } else {
-                None
-            }
+            playing(
+                command.as_str(),
+                project.as_str(),
+                script.as_str(),
+                seed.as_str(),
+                save.as_str(),
+            )
         }
         _ => None,
+    }
+}
+
+fn playing<'a>(
+    command: &str,
+    project: &'a str,
+    script: &'a str,
+    seed: &str,
+    save: &str,
+) -> Option<Command<'a>>
+    ensures { option_map command_view result ≡ play_by command.now project.now script.now seed.now (whole_up_to (2 ^ 64 - 1) seed.now) save.now }
+{
+    let seed = whole_up_to(seed, u64::MAX)?;
+    if command == "play" && save == "-" {
+        Some(Command::Play {
+            project,
+            script,
+            seed,
+        })
+    } else {
+        None
     }
 }
 

@@ -1,136 +1,297 @@
-//! The lines of an input script.
+//! The lines of a script, played.
 
-ghost use Rattle.std.specs.Prelude.{◌≡◌, ◌<◌, ◌==◌, [], ◌∷◌, length, IfNone, IfSome, codes};
-ghost use Rattle.std.specs.List.{position_from, position_or_len};
-ghost use Rattle.player.specs.Lines.{lines_of, budget_by, line_by, text_line, line_of};
-ghost use Rattle.player.specs.GoodLine.{IsGood};
-ghost use Rattle.player.specs.Limits.{clock_limit, passes_limit, warp_limit};
-ghost use Rattle.player.specs.WholeNumbers.{pieces, whole_up_to};
+ghost use Rattle.std.specs.Prelude.{◌≡◌, ◌≤◌, ◌∷◌, [], length, false, option_map, IfOk, IfNone, IfSome, OnOk};
+ghost use Rattle.sv_channels.specs.Counts.{Rose};
+ghost use Rattle.script_words.specs.declared.stops.Stop.TheVariants as stop;
+ghost use Rattle.script_machine.specs.Line.{after};
+ghost use Rattle.script_machine.specs.declared.lines.Line.{Line};
+ghost use Rattle.script_machine.specs.declared.lines.Line.TheVariants as line_of;
+ghost use Rattle.script_machine.specs.Outcome.{Outcome, Goes, StopIs};
+ghost use Rattle.script_machine.specs.Output as machine;
+ghost use Rattle.script_machine.specs.Program.{Program};
+ghost use Rattle.script_machine.specs.ScriptText.{clock_after, lines_of, Good};
+ghost use Rattle.script_machine.specs.Tasks.{Task};
+ghost use Rattle.script_machine.specs.Words.{seen_words};
+ghost use Rattle.script_machine.specs.World.{World};
+ghost use Rattle.script_machine.specs.FrameText.{frame_text as machine_text};
+ghost use Rattle.project_check.specs.Loaded.{program_of};
+ghost use Rattle.input_script.specs.Reader.{IsForward};
+ghost use Rattle.executions.specs.Ready.{AreDressed};
+ghost use Rattle.sequencer.specs.Runs.{world_of, IsRunOf};
+ghost use Rattle.input_lines.specs.Frames.{is_frame};
+ghost use Rattle.player.specs.Limits.{script_limit};
+ghost use Rattle.player.specs.Promise.{ran, stop_of, output_of, Wrote, Writes};
+ghost use Rattle.player.specs.Stages.{line_writes, limit_in, Told, Stopped, IsWriteEnd, IsLimitEnd, IsLineEnd, LineEnds, LineWrote, LineWrites, LineSteadily, PlayedTo, PlayedSteadily};
 
-use crate::pieces::cut;
-use crate::whole_numbers::whole_up_to;
-use sequencer::Budget;
+use crate::status::{Limit, Status};
+use input_script::Script;
+use itoa::Buffer;
+use project_check::Project;
+use script_machine::{Budget, Line, LineRefusal};
+use script_words::{Counted, Rng, Stop};
+use sequencer::Run;
+use stage_frame::{View, frame_text};
+use std::alloc::{AllocError, Global};
+use sv_channels::{Sink, SinkError};
 
-/// A good line of a script.
-#[derive(Clone, Copy, Debug, PartialEq, Eq)]
-pub enum Line {
-    Nothing,
-    Flag,
-    Frame(Budget),
+// Writes one text by one write.
+fn write_text<K: Sink>(alloc: Global, text: &[u8], out: &mut K) -> Result<(), Status>
+    ensures wrote { LineWrote (K.written out.old) (K.written out.new) (text.now ∷ []) (Rose (K.faults out.old) (K.faults out.new)) result }
+    ensures ends { IsWriteEnd result }
+    ensures faults { K.faults out.old ≤ K.faults out.new }
+    ensures steady { LineSteadily (K.faults out.old) (K.faults out.new) result }
+    ensures writes { LineWrites (K.calls out.old) (K.calls out.new) (text.now ∷ []) result }
+{
+    match out.write(alloc, text) {
+        Ok(()) => Ok(()),
+        Err(SinkError::Failed) => Err(Status::WriteFault),
+        Err(SinkError::NoMemory) => Err(Status::NoMemory),
+    }
 }
 
-const MAX_CLOCK: u64 = 9_000_000_000_000;
-
-const MAX_PASSES: u64 = 10_000;
-
-const MAX_WARP: u64 = 1_000_000;
-
-// A frame line of these three words.
-fn frame_line(last: u64, clock: &str, passes: &str, warp: &str) -> Option<Line>
-    ensures line { result ≡ budget_by last (whole_up_to clock_limit clock.now) (whole_up_to passes_limit passes.now) (whole_up_to warp_limit warp.now) }
-    ensures good { IfSome result (IsGood last) }
+// The limit of a stop; want of memory is none.
+fn limit_of(stop: Stop) -> Option<Limit>
+    ensures { option_map stop_of result ≡ limit_in stop }
 {
-    let clock = whole_up_to(clock, MAX_CLOCK)?;
-    let passes = whole_up_to(passes, MAX_PASSES)?;
-    let warp = whole_up_to(warp, MAX_WARP)?;
-    if clock < last || passes == 0 {
-        return None;
+    match stop {
+        Stop::Stack => Some(Limit::Stack),
+        Stop::Text { length } => Some(Limit::Text { length }),
+        Stop::Counter { which } => Some(Limit::Counter { which }),
+        Stop::NoMemory => None,
     }
-    Some(Line::Frame(Budget {
-        clock,
-        passes: passes as u32,
-        warp: warp as u32,
-    }))
 }
 
-#[tactic(auto, using(crate::proofs::LineWords::five_words))]
-// A line that begins with the word `frame` and a space: what follows is three words.
-fn frame_words(last: u64, rest: &str) -> Option<Line>
-    ensures line { result ≡ line_by last (codes "frame" ∷ pieces rest.now) }
-    ensures good { IfSome result (IsGood last) }
+// These bytes. The only error is want of memory.
+fn text_of(alloc: Global, bytes: &[u8]) -> Result<Vec<u8>, AllocError>
+    ensures { IfOk result (λ text. text.items ≡ bytes.now) }
 {
-    let (clock, rest) = cut(rest);
-    let (passes, rest) = cut(rest?);
-    let (warp, rest) = cut(rest?);
-    if rest.is_some() {
-        return None;
-    }
-    frame_line(last, clock, passes, warp)
+    let mut text = Vec::new(alloc);
+    text.extend_from_slice(bytes)?;
+    Ok(text)
 }
 
-#[tactic(auto, using(crate::proofs::LineWords::other_word))]
-// A line of text; `last` is the clock of the last frame.
-fn text_line(last: u64, text: &str) -> Option<Line>
-    ensures line { result ≡ text_line last text.now }
-    ensures good { IfSome result (IsGood last) }
+// The line of a text that is too long, by its length in bytes. The only error is want of memory.
+fn length_text(alloc: Global, length: u64) -> Result<Vec<u8>, AllocError>
+    ensures { IfOk result (λ text. text.items ≡ machine.limit_line (stop.Text length)) }
 {
-    if text.is_empty() || text.as_bytes()[0] == b'#' {
-        return Some(Line::Nothing);
+    let mut text = Vec::new(alloc);
+    text.extend_from_slice(b"limit text ")?;
+    let mut buffer = Buffer::new();
+    text.extend_from_slice(buffer.format(length).as_bytes())?;
+    text.push(b'\n')?;
+    Ok(text)
+}
+
+// The line of a limit. The only error is want of memory.
+fn limit_text(alloc: Global, limit: Limit) -> Result<Vec<u8>, AllocError>
+    ensures { IfOk result (λ text. text.items ≡ machine.limit_line (stop_of limit)) }
+{
+    match limit {
+        Limit::Stack => text_of(alloc, b"limit stack 65536\n"),
+        Limit::Text { length } => length_text(alloc, length),
+        Limit::Counter { .. } => text_of(alloc, b"limit counter\n"),
     }
-    let (word, rest) = cut(text);
-    match rest {
-        None => {
-            if word == "flag" {
-                Some(Line::Flag)
-            } else {
-                None
-            }
+}
+
+// Writes the line of a limit.
+fn tell_limit<K: Sink>(alloc: Global, limit: Limit, out: &mut K) -> Status
+    ensures wrote { LineWrote (K.written out.old) (K.written out.new) (machine.limit_line (stop_of limit) ∷ []) (Rose (K.faults out.old) (K.faults out.new)) (Told result) }
+    ensures ends { IsLimitEnd limit result }
+    ensures faults { K.faults out.old ≤ K.faults out.new }
+    ensures steady { LineSteadily (K.faults out.old) (K.faults out.new) (Told result) }
+    ensures writes { LineWrites (K.calls out.old) (K.calls out.new) (machine.limit_line (stop_of limit) ∷ []) (Told result) }
+{
+    let Ok(text) = limit_text(alloc, limit) else {
+        return Status::NoMemory;
+    };
+    match write_text(alloc, &text, out) {
+        Ok(()) => Status::Limit(limit),
+        Err(status) => status,
+    }
+}
+
+// Ends a run that stops: the line of the limit is written.
+fn stopped<K: Sink>(alloc: Global, stop: Stop, out: &mut K) -> Status
+    ensures wrote { (p : Program) (l : Line) (o : Outcome (World Task)) → StopIs (Stopped stop) o → LineWrote (K.written out.old) (K.written out.new) (line_writes p l o) (Rose (K.faults out.old) (K.faults out.new)) (Told result) }
+    ensures ends { (o : Outcome (World Task)) → StopIs (Stopped stop) o → LineEnds o (Told result) }
+    ensures faults { K.faults out.old ≤ K.faults out.new }
+    ensures steady { LineSteadily (K.faults out.old) (K.faults out.new) (Told result) }
+    ensures writes { (p : Program) (l : Line) (o : Outcome (World Task)) → StopIs (Stopped stop) o → LineWrites (K.calls out.old) (K.calls out.new) (line_writes p l o) (Told result) }
+{
+    match limit_of(stop) {
+        Some(limit) => tell_limit(alloc, limit, out),
+        None => Status::NoMemory,
+    }
+}
+
+// The text of the frame that a run has just made. The only error is want of memory.
+fn text_of_frame<R: Rng + Drop>(
+    alloc: Global,
+    project: &Project,
+    run: &Run<R>,
+) -> Result<Vec<u8>, AllocError>
+    ensures { IfOk result (λ text. text.items ≡ machine_text (program_of project.now) (world_of R.stream project.now run.now)) }
+{
+    let view = View {
+        frame: run.frame_number(),
+        words: run.words().drawn(),
+        targets: run.targets(),
+        variables: run.variables(),
+        devices: run.devices(),
+    };
+    frame_text(alloc, project.records(), &view)
+}
+
+// Makes a frame, and writes its text.
+fn play_frame<R: Rng + Drop, K: Sink>(
+    alloc: Global,
+    project: &Project,
+    run: &mut Run<R>,
+    budget: Budget,
+    out: &mut K,
+) -> Result<(), Status>
+    requires fits { IsRunOf project.now run.old }
+    requires clock { run.old.state.devices.clock ≤ budget.clock }
+    ensures fits { OnOk result (IsRunOf project.now run.new) }
+    ensures world { OnOk result (after (program_of project.now) (line_of.Frame budget) (world_of R.stream project.now run.old) ≡ Goes (world_of R.stream project.now run.new)) }
+    ensures clock { OnOk result (run.new.state.devices.clock ≡ budget.clock) }
+    ensures ends { LineEnds (after (program_of project.now) (line_of.Frame budget) (world_of R.stream project.now run.old)) result }
+    ensures wrote { LineWrote (K.written out.old) (K.written out.new) (line_writes (program_of project.now) (line_of.Frame budget) (after (program_of project.now) (line_of.Frame budget) (world_of R.stream project.now run.old))) (Rose (K.faults out.old) (K.faults out.new)) result }
+    ensures faults { K.faults out.old ≤ K.faults out.new }
+    ensures steady { LineSteadily (K.faults out.old) (K.faults out.new) result }
+    ensures writes { LineWrites (K.calls out.old) (K.calls out.new) (line_writes (program_of project.now) (line_of.Frame budget) (after (program_of project.now) (line_of.Frame budget) (world_of R.stream project.now run.old))) result }
+{
+    match run.frame(project, &budget) {
+        Ok(()) => {}
+        Err(stop) => return Err(stopped(alloc, stop, out)),
+    }
+    let Ok(text) = text_of_frame(alloc, project, run) else {
+        return Err(Status::NoMemory);
+    };
+    write_text(alloc, &text, out)
+}
+
+// Plays a line that is no frame.
+fn play_event<R: Rng + Drop, K: Sink>(
+    alloc: Global,
+    project: &Project,
+    run: &mut Run<R>,
+    line: Line,
+    out: &mut K,
+) -> Result<(), Status>
+    requires fits { IsRunOf project.now run.old }
+    requires event { is_frame line ≡ false }
+    ensures fits { OnOk result (IsRunOf project.now run.new) }
+    ensures world { OnOk result (after (program_of project.now) line (world_of R.stream project.now run.old) ≡ Goes (world_of R.stream project.now run.new)) }
+    ensures clock { OnOk result (run.new.state.devices.clock ≡ run.old.state.devices.clock) }
+    ensures ends { LineEnds (after (program_of project.now) line (world_of R.stream project.now run.old)) result }
+    ensures wrote { LineWrote (K.written out.old) (K.written out.new) (line_writes (program_of project.now) line (after (program_of project.now) line (world_of R.stream project.now run.old))) (Rose (K.faults out.old) (K.faults out.new)) result }
+    ensures faults { K.faults out.old ≤ K.faults out.new }
+    ensures steady { LineSteadily (K.faults out.old) (K.faults out.new) result }
+    ensures writes { LineWrites (K.calls out.old) (K.calls out.new) (line_writes (program_of project.now) line (after (program_of project.now) line (world_of R.stream project.now run.old))) result }
+{
+    match run.apply_line(project, line) {
+        Ok(()) => Ok(()),
+        Err(stop) => Err(stopped(alloc, stop, out)),
+    }
+}
+
+// What a frame line hands in; None for any other line.
+fn budget_of(line: &Line) -> Option<Budget>
+    ensures frame { IfSome result (λ budget. line.now ≡ line_of.Frame budget) }
+    ensures event { IfNone result (is_frame line.now ≡ false) }
+{
+    match line {
+        Line::Frame(budget) => Some(*budget),
+        _ => None,
+    }
+}
+
+// Plays a good line.
+fn play_line<R: Rng + Drop, K: Sink>(
+    alloc: Global,
+    project: &Project,
+    run: &mut Run<R>,
+    line: Line,
+    out: &mut K,
+) -> Result<(), Status>
+    requires fits { IsRunOf project.now run.old }
+    requires forward { IsForward run.old.state.devices.clock line }
+    ensures fits { OnOk result (IsRunOf project.now run.new) }
+    ensures world { OnOk result (after (program_of project.now) line (world_of R.stream project.now run.old) ≡ Goes (world_of R.stream project.now run.new)) }
+    ensures clock { OnOk result (run.new.state.devices.clock ≡ clock_after run.old.state.devices.clock (Good line)) }
+    ensures ends { LineEnds (after (program_of project.now) line (world_of R.stream project.now run.old)) result }
+    ensures wrote { LineWrote (K.written out.old) (K.written out.new) (line_writes (program_of project.now) line (after (program_of project.now) line (world_of R.stream project.now run.old))) (Rose (K.faults out.old) (K.faults out.new)) result }
+    ensures faults { K.faults out.old ≤ K.faults out.new }
+    ensures steady { LineSteadily (K.faults out.old) (K.faults out.new) result }
+    ensures writes { LineWrites (K.calls out.old) (K.calls out.new) (line_writes (program_of project.now) line (after (program_of project.now) line (world_of R.stream project.now run.old))) result }
+{
+    match budget_of(&line) {
+        Some(budget) => play_frame(alloc, project, run, budget, out),
+        None => play_event(alloc, project, run, line, out),
+    }
+}
+
+// How a run ends at a line that is refused.
+fn refused_line(refusal: LineRefusal) -> Status
+    ensures { IsLineEnd refusal result }
+{
+    match refusal {
+        LineRefusal::NoMemory => Status::NoMemory,
+        _ => Status::BadScript(refusal),
+    }
+}
+
+// Plays the lines of a script on a run, the first of which has the number 1.
+fn play_from<R: Rng + Drop, K: Sink>(
+    alloc: Global,
+    project: &Project,
+    run: &mut Run<R>,
+    script: &[u8],
+    out: &mut K,
+) -> Status
+    requires fits { IsRunOf project.now run.old }
+    requires few { length script.now ≤ script_limit }
+    ensures cause { PlayedTo (ran (machine.played (program_of project.now) 1 run.old.state.devices.clock (world_of R.stream project.now run.old) (lines_of script.now)).ending) (Rose (K.faults out.old) (K.faults out.new)) result }
+    ensures bytes { Wrote (K.written out.old) (K.written out.new) (machine.played (program_of project.now) 1 run.old.state.devices.clock (world_of R.stream project.now run.old) (lines_of script.now)).writes result }
+    ensures faults { K.faults out.old ≤ K.faults out.new }
+    ensures steady { PlayedSteadily (K.faults out.old) (K.faults out.new) result }
+    ensures writes { Writes (K.calls out.old) (K.calls out.new) (machine.played (program_of project.now) 1 run.old.state.devices.clock (world_of R.stream project.now run.old) (lines_of script.now)).writes result }
+{
+    let mut reader = Script::new(alloc, script, run.clock());
+    'lines: loop {
+        let next = match reader.next_line() {
+            Ok(next) => next,
+            Err(refusal) => return refused_line(refusal),
+        };
+        let Some(line) = next else {
+            return Status::Done;
+        };
+        match play_line(alloc, project, run, line, out) {
+            Ok(()) => {}
+            Err(status) => return status,
         }
-        Some(rest) => {
-            if word == "frame" {
-                frame_words(last, rest)
-            } else {
-                None
-            }
-        }
     }
 }
 
-#[tactic(auto, using(crate::proofs::LineWords::utf8_rules))]
-/// The line that the bytes are, or `None` where they are no good line. `last` is the clock of the
-/// last frame, in milliseconds.
-pub fn line_of(last: u64, bytes: &[u8]) -> Option<Line>
-    ensures line { result ≡ line_of last bytes.now }
-    ensures good { IfSome result (IsGood last) }
+// Plays the lines of a script, from the first world on.
+pub(crate) fn play_lines<R: Rng + Drop, K: Sink>(
+    alloc: Global,
+    project: &Project,
+    words: Counted<R>,
+    script: &[u8],
+    out: &mut K,
+) -> Status
+    requires few { length script.now ≤ script_limit }
+    requires dressed { AreDressed project.now }
+    ensures cause { PlayedTo (ran (output_of (program_of project.now) (seen_words R.stream words) script.now).ending) (Rose (K.faults out.old) (K.faults out.new)) result }
+    ensures bytes { Wrote (K.written out.old) (K.written out.new) (output_of (program_of project.now) (seen_words R.stream words) script.now).writes result }
+    ensures faults { K.faults out.old ≤ K.faults out.new }
+    ensures steady { PlayedSteadily (K.faults out.old) (K.faults out.new) result }
+    ensures writes { Writes (K.calls out.old) (K.calls out.new) (output_of (program_of project.now) (seen_words R.stream words) script.now).writes result }
 {
-    match str::from_utf8(bytes) {
-        Ok(text) => text_line(last, text),
-        Err(_) => None,
-    }
-}
-
-// The place of the first line end.
-fn line_end(script: &[u8]) -> Option<usize>
-    ensures value { result ≡ position_from (λ b. b == 10) 0 script.now }
-    ensures within { IfSome result (λ at. at < length script.now) }
-{
-    script.iter().position(|byte| *byte == b'\n')
-}
-
-// How many bytes stand before the first line end, or in all.
-fn line_len(script: &[u8]) -> usize
-    ensures { result ≡ position_or_len (λ b. b == 10) script.now }
-{
-    match line_end(script) {
-        Some(at) => at,
-        None => script.len(),
-    }
-}
-
-/// The first line of a script, and the bytes of the lines after it; `None` at the end. A line ends
-/// by byte 10, and the last line may lack it.
-pub fn first_line(script: &[u8]) -> Option<(&[u8], &[u8])>
-    ensures end { IfNone result (script.now ≡ []) }
-    ensures line { IfSome result (λ x. lines_of script.now ≡ x.0.now ∷ lines_of x.1.now) }
-    ensures shorter { IfSome result (λ x. length x.1.now < length script.now) }
-{
-    if script.is_empty() {
-        return None;
-    }
-    let len = line_len(script);
-    if len < script.len() {
-        Some((&script[..len], &script[len + 1..]))
-    } else {
-        Some((script, &script[script.len()..]))
-    }
+    let Ok(mut run) = Run::open(alloc, project, words) else {
+        return Status::NoMemory;
+    };
+    play_from(alloc, project, &mut run, script, out)
 }

@@ -3,10 +3,8 @@
 
 mod command;
 mod counts;
-mod frame_text;
+mod fetching;
 mod lines;
-mod pieces;
-mod script;
 mod status;
 mod top;
 mod whole_numbers;

@@ -1,12 +1,13 @@
 //! How a call ends.
 
 ghost use Rattle.std.specs.Prelude.{◌≡◌, IfOk, string_bytes, option_map};
-ghost use Rattle.player.specs.Told.{told_text, text_of_refusal, text_of_status, exit_of_status};
+ghost use Rattle.player.specs.Told.{told_text, text_of_refusal, text_of_line, text_of_status, exit_of_line, exit_of_status};
 
-use crate::script::LineRefusal;
 use itoa::Buffer;
 use project_file::{MutationRefusal, Refusal};
 use project_json::JsonRefusal;
+use script_machine::LineRefusal;
+use script_words::CounterKind;
 use std::alloc::{AllocError, Global};
 
 /// Which of the files that the words name.
@@ -14,6 +15,17 @@ use std::alloc::{AllocError, Global};
 pub enum Which {
     Project,
     Script,
+}
+
+/// A limit of a run.
+#[derive(Clone, Copy, Debug, PartialEq, Eq)]
+pub enum Limit {
+    /// 65,536 levels are open over all threads.
+    Stack,
+    /// A text would be longer than 1,048,576 bytes: its length in bytes.
+    Text { length: u64 },
+    /// A counter has no number left.
+    Counter { which: CounterKind },
 }
 
 /// How a call of `play` ends.
@@ -29,8 +41,10 @@ pub enum Status {
     WriteFault,
     /// The project is refused. Want of memory never stands here.
     BadProject(Refusal),
-    /// A line of the script is refused.
+    /// A line of the script is refused. Want of memory never stands here.
     BadScript(LineRefusal),
+    /// The run reached a limit, whose line was written in place of a frame's text.
+    Limit(Limit),
     /// A file is longer than its limit, in bytes.
     TooLarge { which: Which, limit: u64 },
     /// Memory ran out.
@@ -64,6 +78,20 @@ pub fn refusal_name(refusal: &Refusal) -> Option<&'static str>
     }
 }
 
+// What tells a refused line: the name with the number of the refusal and a space, before the line's number.
+fn told_line(refusal: &LineRefusal) -> (&'static str, Option<u64>)
+    ensures { told_text result.0.now result.1 ≡ text_of_line refusal.now }
+{
+    match refusal {
+        LineRefusal::NotUtf8 { line } => ("BadScript 1 ", Some(*line)),
+        LineRefusal::UnknownLine { line } => ("BadScript 2 ", Some(*line)),
+        LineRefusal::BadNumber { line } => ("BadScript 3 ", Some(*line)),
+        LineRefusal::OutOfRange { line } => ("BadScript 4 ", Some(*line)),
+        LineRefusal::ClockBack { line, .. } => ("BadScript 5 ", Some(*line)),
+        LineRefusal::NoMemory => ("NoMemory", None),
+    }
+}
+
 /// What tells a status: its name, after a refused project with the number of the refusal, and after a refused line with
 /// the number of the refusal and a space, before the line's number.
 pub fn told(status: &Status) -> (&'static str, Option<u64>)
@@ -75,7 +103,8 @@ pub fn told(status: &Status) -> (&'static str, Option<u64>)
         Status::ReadFault => ("ReadFault", None),
         Status::WriteFault => ("WriteFault", None),
         Status::BadProject(refusal) => (refusal_name(refusal).unwrap_or("NoMemory"), None),
-        Status::BadScript(LineRefusal::UnknownLine { line }) => ("BadScript 2 ", Some(*line)),
+        Status::BadScript(refusal) => told_line(refusal),
+        Status::Limit(_) => ("Limit", None),
         Status::TooLarge { .. } => ("TooLarge", None),
         Status::NoMemory => ("NoMemory", None),
     }
@@ -98,6 +127,16 @@ pub fn status_text(alloc: Global, status: &Status) -> Result<String, AllocError>
     }
 }
 
+// The number of a refused line.
+fn line_number(refusal: &LineRefusal) -> u8
+    ensures { result ≡ exit_of_line refusal.now }
+{
+    match refusal {
+        LineRefusal::NoMemory => 9,
+        _ => 5,
+    }
+}
+
 /// The number with which the command ends.
 pub fn exit_number(status: &Status) -> u8
     ensures { result ≡ exit_of_status status.now }
@@ -111,7 +150,8 @@ pub fn exit_number(status: &Status) -> u8
             Some(_) => 4,
             None => 9,
         },
-        Status::BadScript(_) => 5,
+        Status::BadScript(refusal) => line_number(refusal),
+        Status::Limit(_) => 7,
         Status::TooLarge { .. } => 8,
         Status::NoMemory => 9,
     }

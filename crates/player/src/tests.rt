@@ -174,7 +174,7 @@ fn one_frame(rt: HostRuntime) -> Result<(), Fail> {
 #[test]
 fn an_empty_script_and_an_unknown_line(rt: HostRuntime) -> Result<(), Fail> {
     let base = project(rt.alloc(), "{}", "{}")?;
-    let rows: [(&[u8], &str, u8); 2] = [(b"", "Done", 0), (b"stop\n", "BadScript 2 1", 5)];
+    let rows: [(&[u8], &str, u8); 2] = [(b"", "Done", 0), (b"jump\n", "BadScript 2 1", 5)];
     for (script, text, number) in rows {
         let answer = answered(rt.alloc(), "play p s 1 -", base.as_bytes(), script)?;
         is_told(&rt, &answer, text, number, b"");
@@ -253,58 +253,6 @@ fn texts_that_are_no_json(rt: HostRuntime) -> Result<(), Fail> {
     Ok(())
 }
 
-// The project with blocks, and one text in it replaced by another.
-fn changed(alloc: Global, old: &str, new: &str) -> Result<String, AllocError> {
-    let base = project(alloc, "{}", SET_AND_CHANGE)?;
-    match base.as_str().split_once(old) {
-        Some((before, after)) => format!(in alloc; "{before}{new}{after}"),
-        None => String::from_str(alloc, "the text to replace is not there"),
-    }
-}
-
-static CHANGES: [(&str, &str); 17] = [
-    // Shapes, and one stage.
-    ("\"volume\":100", "\"volume\":\"100\""),
-    ("{\"isStage\":false", "{\"isStage\":true"),
-    // Numbers in their ranges.
-    ("\"x\":0", "\"x\":12345"),
-    ("\"size\":100", "\"size\":-1"),
-    ("\"direction\":90", "\"direction\":181"),
-    ("\"currentCostume\":0", "\"currentCostume\":1"),
-    // Values of variables; no variable of a sprite, and empty lists.
-    ("[\"n\",0]", "[\"n\",1.5]"),
-    ("[\"n\",0]", "[\"n\",\"hello\"]"),
-    (
-        "\"Cat\",\"variables\":{}",
-        "\"Cat\",\"variables\":{\"w\":[\"m\",0]}",
-    ),
-    ("[\"l\",[]]", "[\"l\",[1]]"),
-    // Monitors of variables of the stage.
-    (
-        "\"opcode\":\"data_variable\"",
-        "\"opcode\":\"sensing_timer\"",
-    ),
-    ("\"spriteName\":null", "\"spriteName\":\"Cat\""),
-    // Blocks that are known.
-    ("data_changevariableby", "control_wait"),
-    // Links to later blocks.
-    ("\"next\":null", "\"next\":\"a2\""),
-    ("\"next\":\"a2\"", "\"next\":\"a9\""),
-    // Values and variables of blocks.
-    ("[1,[4,\"5\"]]", "[3,[12,\"n\",\"v\"]]"),
-    ("[\"n\",\"v\"]", "[\"n\",\"w\"]"),
-];
-
-#[test]
-fn each_rule_of_the_first_form_refuses(rt: HostRuntime) -> Result<(), Fail> {
-    for (old, new) in &CHANGES {
-        let text = changed(rt.alloc(), old, new)?;
-        let answer = answered(rt.alloc(), "play p s 1 -", text.as_bytes(), TWO_FRAMES)?;
-        is_told(&rt, &answer, "BadProject P2", 4, b"");
-    }
-    Ok(())
-}
-
 #[test]
 fn projects_that_are_checked(rt: HostRuntime) -> Result<(), Fail> {
     let rows = [
@@ -322,43 +270,50 @@ fn projects_that_are_checked(rt: HostRuntime) -> Result<(), Fail> {
     Ok(())
 }
 
-static LINES: [&str; 21] = [
-    "stop",
-    "Flag",
-    "flag ",
-    " flag",
-    "flag now",
-    "frame",
-    "frame 9 1",
-    "frame 9 1 0 0",
-    "frame  9 1 0",
-    "frame 9 1 0 ",
-    "frame 09 1 0",
-    "frame +9 1 0",
-    "frame -9 1 0",
-    "frame 9.0 1 0",
-    "frame 9000000000001 1 0",
-    "frame 9 0 0",
-    "frame 9 10001 0",
-    "frame 9 1 1000001",
-    "frame 99999999999999999999 1 0",
-    "frame 8 1 0",
-    "frame 9 1 0\r",
+#[test]
+fn a_refused_project_is_not_played(rt: HostRuntime) -> Result<(), Fail> {
+    for (blocks, text) in [(TOUCHING, "BadProject P5"), (OWN_NEXT, "BadProject P7")] {
+        let base = project(rt.alloc(), "{}", blocks)?;
+        let answer = answered(rt.alloc(), "play p s 1 -", base.as_bytes(), TWO_FRAMES)?;
+        is_told(&rt, &answer, text, 4, b"");
+    }
+    Ok(())
+}
+
+// When the flag is clicked: set n to 0123456789; repeat 17: set n to (join n n).
+const DOUBLE: &str =
+    "{\"a1\":{\"opcode\":\"event_whenflagclicked\",\"next\":\"a2\",\"topLevel\":true},\"a2\":{\"opcode\":\"data_setvariableto\",\"next\":\"a3\",\"inputs\":{\"VALUE\":[1,[10,\"0123456789\"]]},\"fields\":{\"VARIABLE\":[\"n\",\"v\"]}},\"a3\":{\"opcode\":\"control_repeat\",\"inputs\":{\"TIMES\":[1,[6,\"17\"]],\"SUBSTACK\":[2,\"a4\"]}},\"a4\":{\"opcode\":\"data_setvariableto\",\"inputs\":{\"VALUE\":[3,\"a5\",[10,\"\"]]},\"fields\":{\"VARIABLE\":[\"n\",\"v\"]}},\"a5\":{\"opcode\":\"operator_join\",\"inputs\":{\"STRING1\":[3,[12,\"n\",\"v\"],[10,\"\"]],\"STRING2\":[3,[12,\"n\",\"v\"],[10,\"\"]]}}}";
+
+#[test]
+fn a_limit_writes_its_line(rt: HostRuntime) -> Result<(), Fail> {
+    let base = project(rt.alloc(), "{}", DOUBLE)?;
+    let script = b"flag\nframe 0 30 1000\n";
+    let answer = answered(rt.alloc(), "play p s 1 -", base.as_bytes(), script)?;
+    is_told(&rt, &answer, "Limit", 7, b"limit text 1310720\n");
+    Ok(())
+}
+
+static LINES: [(&[u8], &str); 7] = [
+    (b"a\xFF", "BadScript 1 4"),
+    (b"Flag", "BadScript 2 4"),
+    (b"frame  9 1 0", "BadScript 2 4"),
+    (b"frame 09 1 0", "BadScript 3 4"),
+    (b"frame 9 1 0\r", "BadScript 3 4"),
+    (b"frame 9 10001 0", "BadScript 4 4"),
+    (b"frame 8 1 0", "BadScript 5 4"),
 ];
 
 #[test]
 fn lines_that_are_refused(rt: HostRuntime) -> Result<(), Fail> {
-    let base = project(rt.alloc(), "{}", "{}")?;
-    let frame = frame_at(rt.alloc(), 1, 9, "0")?;
-    for line in &LINES {
-        let script = format!(in rt.alloc(); "# one\nframe 9 10000 1000000\n\n{line}\nflag\n")?;
-        let answer = answered(
-            rt.alloc(),
-            "play p s 1 -",
-            base.as_bytes(),
-            script.as_bytes(),
-        )?;
-        is_told(&rt, &answer, "BadScript 2 4", 5, frame.as_bytes());
+    let alloc = rt.alloc();
+    let base = project(alloc, "{}", "{}")?;
+    let frame = frame_at(alloc, 1, 9, "0")?;
+    for (line, text) in &LINES {
+        let mut script = b"# one\nframe 9 10000 1000000\n\n".to_vec(alloc)?;
+        script.extend_from_slice(line)?;
+        script.extend_from_slice(b"\nflag\n")?;
+        let answer = answered(alloc, "play p s 1 -", base.as_bytes(), &script)?;
+        is_told(&rt, &answer, text, 5, frame.as_bytes());
     }
     Ok(())
 }

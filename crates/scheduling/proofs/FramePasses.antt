@@ -1,12 +1,12 @@
 -- The passes of a frame by one more pass.
 use Rattle.std.proofs.Common.{◌≡◌, ℕ, zero, suc, ◌+◌, ◌-◌, ◌<◌, ◌≤◌, List, [], ◌∷◌, map, filter, Bool, true, false, None, Err, refl, sym, ap, ◌∙◌, subst, arith}
-use Rattle.std.specs.Prelude.{if◌then◌else◌, not, ◌&&◌, ◌||◌, IfSome}
+use Rattle.std.specs.Prelude.{if◌then◌else◌, not, ◌&&◌, ◌||◌}
 use Rattle.std.specs.List.{All}
-use Rattle.std.proofs.lemmas.List.Elements.{All-head, All-tail, All-cons}
+use Rattle.std.proofs.lemmas.List.Elements.{All-nil, All-head, All-tail, All-cons}
 use Rattle.rand_core.specs.Stream.{Stream}
 use Rattle.script_words.specs.declared.stops.Stop.{Stop}
 use Rattle.script_machine.specs.Threads.{is_done}
-use Rattle.script_machine.specs.Places.{Places}
+use Rattle.script_machine.specs.Places.{Places, Everyone}
 use Rattle.script_machine.specs.Outcome.{Outcome, Goes, then_do, StopIs}
 use Rattle.script_machine.specs.Program.{Program}
 use Rattle.script_machine.specs.Slice as slices
@@ -22,7 +22,9 @@ use Rattle.project_check.specs.declared.project.Project.{Project}
 use Rattle.executions.specs.declared.state.State.{State}
 use Rattle.executions.specs.Seen.{sheets, seen, seen_threads}
 use Rattle.executions.proofs.Stops.{stop-then, stop-same}
-use Rattle.scheduling.specs.Resting.{IsResting}
+use Rattle.executions.specs.Ready.{IsOfLive, IsKept}
+use Rattle.executions.proofs.Keeping.{kept_threads}
+use Rattle.executions.specs.Resting.{IsResting, IsIdle}
 use Rattle.scheduling.specs.Turns.{passes_go_on}
 
 empty_map : {A B : Type 0} (f : A → B) (xs : List A) → is_empty (map f xs) ≡ is_empty xs
@@ -52,24 +54,30 @@ all_filter : {A : Type 0} (P : A → Type 0) (keep : A → Bool) (xs : List A) �
 all_filter P keep [] h = h
 all_filter P keep (x ∷ xs) h = all_first P (keep x) x (filter keep xs) (All-head P x xs h) (all_filter P keep xs (All-tail P x xs h))
 
+alive_first : (b : Bool) (t : Thread) (ts : List Thread) → is_done t.status ≡ b → All (λ t. is_done t.status ≡ false) ts → All (λ t. is_done t.status ≡ false) (if not b then t ∷ ts else ts)
+alive_first true t ts e h = h
+alive_first false t ts e h = All-cons (λ t. is_done t.status ≡ false) t ts e h
+
+all_alive : (ts : List Thread) → All (λ t. is_done t.status ≡ false) (filter (λ t. not (is_done t.status)) ts)
+all_alive [] = All-nil (λ t. is_done t.status ≡ false)
+all_alive (t ∷ ts) = alive_first (is_done t.status) t (filter (λ t. not (is_done t.status)) ts) refl (all_alive ts)
+
 module _ {R : Type 0} (stream : R → Stream) (p : Project) (s : State R) (ts : Places Thread) (removed : ts ≡ without_done s.threads) where
   pub done_seen : slices.without_done (seen stream p s) ≡ seen stream p (record s { threads = ts })
   done_seen =
       ap (λ l. record (seen stream p s) { threads = record { list = l; detached = None } }) (filter_map (task (sheets p)) (λ t. not (is_done t.status)) (λ t. not (is_done t.status)) (λ t. refl) s.threads.list)
       ∙ ap (λ z. record (seen stream p s) { threads = seen_threads p z }) (sym removed)
 
-  pub done_rests : IsResting p s → IsResting p (record s { threads = ts })
-  done_rests h = record {
-    kept = record {
-      threads = record {
-        all = record {
-          listed = subst (λ z. All (Fits (sheets p)) z.list) (sym removed) (all_filter (Fits (sheets p)) (λ t. not (is_done t.status)) s.threads.list h.kept.threads.all.listed);
-          detached = subst (λ z. IfSome z.detached (Fits (sheets p))) (sym removed) tt;
-        };
-      };
-      few = h.kept.few;
-    };
-    alone = ap (λ z. z.detached) removed;
+  kept_list : (P : Thread → Type 0) → Everyone P s.threads → Everyone P ts
+  kept_list P h = subst (Everyone P) (sym removed) (record { listed = all_filter P (λ t. not (is_done t.status)) s.threads.list h.listed; detached = tt })
+
+  done_kept : IsKept p s → IsKept p (record s { threads = ts })
+  done_kept h = kept_threads p s h ts (kept_list (Fits (sheets p)) h.threads.all) (kept_list (IsOfLive s.targets) h.living)
+
+  pub done_idle : IsResting p s → IsIdle p (record s { threads = ts })
+  done_idle h = record {
+    resting = record { kept = done_kept h.kept; alone = ap (λ z. z.detached) removed };
+    alive = subst (λ z. All (λ t. is_done t.status ≡ false) z.list) (sym removed) (all_alive s.threads.list);
   }
 
 module _ (q : Program) (budget : ℕ) where

@@ -98,4 +98,4 @@ module _ {R : Type 0} (stream : R → Stream) (p : Project) (budget i : ℕ) (w 
         ∙ ap (λ m. Goes m.world) (moved_is stream p i w ts can.thread gone [] Ended ended can.found new_is)
 
     pub turn_kept : IsKept p (record w { threads = ts })
-    turn_kept = after p can.thread gone [] Ended ended i w ts can.found new_is can.kept
+    turn_kept = after p can.thread gone [] Ended ended i w ts can.found new_is can.alive can.kept

@@ -19,11 +19,12 @@ use Rattle.thread_frames.specs.Threads.{Thread, with_status, without_detached}
 use Rattle.project_check.specs.declared.project.Project.{Project}
 use Rattle.project_check.specs.Loaded.{program_of}
 use Rattle.executions.specs.declared.state.State.{State}
-use Rattle.executions.specs.Ready.{AllFit, IsKept}
+use Rattle.executions.specs.Ready.{IsOfLive, IsKept}
 use Rattle.executions.specs.Seen.{sheets, seen, seen_threads}
-use Rattle.executions.proofs.Placing.{put_at, put_seen, at_seen, on_is, everyone_at, everyone_put, running_seen}
+use Rattle.executions.proofs.Keeping.{kept_put, kept_threads}
+use Rattle.executions.proofs.Placing.{put_at, put_seen, at_seen, on_is, everyone_at, running_seen}
 use Rattle.executions.proofs.Stops.{stop-then, stop-same}
-use Rattle.scheduling.specs.Resting.{IsResting}
+use Rattle.executions.specs.Resting.{IsResting}
 use Rattle.scheduling.specs.Turns.{IsAlive, CanTurn, is_active}
 
 -- a change of a thread is seen
@@ -56,9 +57,6 @@ module _ {R : Type 0} (stream : R → Stream) (p : Project) (budget i : ℕ) (w 
       let before = everyone_at (Fits (sheets p)) (Slot i) w.threads alive.thread resting.kept.threads.all alive.found in
       record { done = λ e. absurd (cc e); open_levels = λ e. before.open_levels alive.alive }
 
-  all_fit : AllFit p ts
-  all_fit = record { all = subst (Everyone (Fits (sheets p))) (sym new_is) (everyone_put (Fits (sheets p)) (Slot i) w.threads thread resting.kept.threads.all fits) }
-
   alone : ts.detached ≡ None
   alone = ap (λ z. z.detached) new_is ∙ resting.alone
 
@@ -66,7 +64,7 @@ module _ {R : Type 0} (stream : R → Stream) (p : Project) (budget i : ℕ) (w 
   found = ap (λ o. at_place (place i (record { list = ts.list; detached = o })) ts) alone ∙ ap (at_place (Slot i)) new_is ∙ put_at (Slot i) w.threads alive.thread thread alive.found
 
   pub can_turn : CanTurn p i mid
-  can_turn = record { thread = thread; found = found; alive = refl; kept = record { threads = all_fit; few = resting.kept.few } }
+  can_turn = record { thread = thread; found = found; alive = refl; kept = kept_put p w resting.kept (Slot i) alive.thread thread alive.found fits refl (λ e. alive.alive) ts new_is }
 
   woken_is : woken i (seen stream p w) ≡ seen stream p mid
   woken_is =
@@ -91,6 +89,8 @@ module _ {R : Type 0} (stream : R → Stream) (p : Project) (budget i : ℕ) (w 
 
     pub visit_kept : IsKept p after → IsResting p (record after { threads = new })
     visit_kept kept = record {
-      kept = record { threads = subst (AllFit p) (sym dropped) (record { all = record { listed = kept.threads.all.listed; detached = tt } }); few = kept.few };
+      kept =
+          kept_threads p after kept new (subst (Everyone (Fits (sheets p))) (sym dropped) (record { listed = kept.threads.all.listed; detached = tt }))
+          (subst (Everyone (IsOfLive after.targets)) (sym dropped) (record { listed = kept.living.listed; detached = tt }));
       alone = ap (λ z. z.detached) dropped;
     }

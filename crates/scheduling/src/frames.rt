@@ -4,9 +4,8 @@ ghost use Rattle.std.specs.Prelude.{◌≡◌, true, IfOk};
 ghost use Rattle.script_machine.specs.Frame as machine;
 ghost use Rattle.script_machine.specs.Outcome.{Goes, StopIs};
 ghost use Rattle.project_check.specs.Loaded.{program_of};
-ghost use Rattle.executions.specs.Built.{IsBuilt};
 ghost use Rattle.executions.specs.Seen.{seen};
-ghost use Rattle.scheduling.specs.Resting.{IsResting};
+ghost use Rattle.executions.specs.Resting.{IsIdle};
 ghost use Rattle.scheduling.specs.Turns.{passes_go_on};
 
 use crate::passing::pass;
@@ -34,11 +33,10 @@ pub fn passes<R: Rng + Drop>(
     warp: u32,
     passes: u32,
 ) -> Result<(), Stop>
-    requires built { IsBuilt project.now }
-    requires resting { IsResting project.now state.old }
+    requires { IsIdle project.now state.old }
     ensures ok { IfOk result (λ _. machine.passes (program_of project.now) warp passes true true (seen R.stream project.now state.old) ≡ Goes (seen R.stream project.now state.new)) }
     ensures stop { StopIs result (machine.passes (program_of project.now) warp passes true true (seen R.stream project.now state.old)) }
-    ensures kept { IfOk result (λ _. IsResting project.now state.new) }
+    ensures kept { IfOk result (λ _. IsIdle project.now state.new) }
 {
     let mut first = true;
     let mut active = true;

@@ -6,9 +6,8 @@ ghost use Rattle.script_machine.specs.Places.{running};
 ghost use Rattle.script_machine.specs.Slice as machine;
 ghost use Rattle.project_check.specs.declared.project.Project.{Project};
 ghost use Rattle.project_check.specs.Loaded.{program_of};
-ghost use Rattle.executions.specs.Built.{IsBuilt};
 ghost use Rattle.executions.specs.Seen.{seen, seen_threads};
-ghost use Rattle.scheduling.specs.Resting.{IsResting};
+ghost use Rattle.executions.specs.Resting.{IsResting};
 ghost use Rattle.scheduling.specs.Turns as turns;
 ghost use Rattle.scheduling.specs.Turns.{IsAlive};
 
@@ -78,7 +77,6 @@ fn visit<R: Rng + Drop>(
     slot: u64,
     warp: u32,
 ) -> Result<bool, Stop>
-    requires built { IsBuilt project.now }
     requires resting { IsResting project.now state.old }
     requires alive { IsAlive slot state.old.threads }
     ensures ok { IfOk result (λ active. machine.visit (program_of project.now) warp slot (seen R.stream project.now state.old) ≡ Goes (record { world = seen R.stream project.now state.new; active = active })) }
@@ -108,8 +106,7 @@ pub fn pass<R: Rng + Drop>(
     first: bool,
     warp: u32,
 ) -> Result<bool, Stop>
-    requires built { IsBuilt project.now }
-    requires resting { IsResting project.now state.old }
+    requires { IsResting project.now state.old }
     ensures ok { IfOk result (λ active. machine.pass (program_of project.now) first warp machine.most_slices 0 (seen R.stream project.now state.old) false ≡ Goes (record { world = seen R.stream project.now state.new; active = active })) }
     ensures stop { StopIs result (machine.pass (program_of project.now) first warp machine.most_slices 0 (seen R.stream project.now state.old) false) }
     ensures kept { IfOk result (λ _. IsResting project.now state.new) }

@@ -7,7 +7,6 @@ ghost use Rattle.script_machine.specs.Slice as machine;
 ghost use Rattle.thread_frames.specs.Levels.{warp_flag, top_block};
 ghost use Rattle.thread_frames.specs.Threads.{levels_of};
 ghost use Rattle.project_check.specs.Loaded.{program_of};
-ghost use Rattle.executions.specs.Built.{IsBuilt};
 ghost use Rattle.executions.specs.Ready.{IsKept, IsReady};
 ghost use Rattle.executions.specs.Seen.{seen};
 ghost use Rattle.scheduling.specs.Turns.{CanTurn};
@@ -72,8 +71,7 @@ pub fn slice<R: Rng + Drop>(
     slot: u64,
     warp: u32,
 ) -> Result<(), Stop>
-    requires built { IsBuilt project.now }
-    requires ready { IsReady project.now slot state.old }
+    requires { IsReady project.now slot state.old }
     ensures ok { IfOk result (λ _. machine.slice (program_of project.now) warp slot machine.most_executions 0 (seen R.stream project.now state.old) ≡ Goes (seen R.stream project.now state.new)) }
     ensures stop { StopIs result (machine.slice (program_of project.now) warp slot machine.most_executions 0 (seen R.stream project.now state.old)) }
     ensures kept { IfOk result (λ _. IsKept project.now state.new) }
@@ -113,8 +111,7 @@ pub(crate) fn turn<R: Rng + Drop>(
     slot: u64,
     warp: u32,
 ) -> Result<(), Stop>
-    requires built { IsBuilt project.now }
-    requires alive { CanTurn project.now slot state.old }
+    requires { CanTurn project.now slot state.old }
     ensures ok { IfOk result (λ _. machine.turn (program_of project.now) warp slot (seen R.stream project.now state.old) ≡ Goes (seen R.stream project.now state.new)) }
     ensures stop { StopIs result (machine.turn (program_of project.now) warp slot (seen R.stream project.now state.old)) }
     ensures kept { IfOk result (λ _. IsKept project.now state.new) }

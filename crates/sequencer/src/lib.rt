@@ -1,11 +1,6 @@
-//! Runs the scripts of a project, a frame at a time.
+//! Runs of a project: a line of an input script at a time (scratch-vm, engine/runtime.js and engine/sequencer.js).
 #![tactic(auto)]
 
-mod budget;
-mod first;
+mod run;
 
-pub use budget::Budget;
-pub use first::FirstRun;
-
-#[cfg(test)]
-mod tests;
+pub use run::Run;

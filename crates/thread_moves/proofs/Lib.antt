@@ -5,3 +5,4 @@ pub mod Unwinds
 pub mod Moves
 pub mod Recursion
 pub mod Calls
+pub mod Resumes

@@ -1,2 +1,3 @@
 pub mod Ranked
 pub mod Standing
+pub mod Resuming

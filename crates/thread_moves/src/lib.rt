@@ -5,8 +5,10 @@
 mod calling;
 mod linked;
 mod moving;
+mod resuming;
 mod settling;
 
 pub use calling::call;
 pub use moving::{enter, go_on, stay, stop_this_script};
+pub use resuming::resume;
 pub use settling::settle;

@@ -12,6 +12,7 @@ ghost use Rattle.script_machine.specs.Monitors.{monitor_set};
 ghost use Rattle.target_records.specs.Records.{records_in};
 ghost use Rattle.variables.specs.First.{first_variables};
 ghost use Rattle.variables.specs.Held.{HasStore, HasNoStore, HasValue, HasItems, HasSameShape};
+ghost use Rattle.variables.specs.Kept.{HasShortLists};
 
 use crate::{first, monitors, store};
 use lists::ListOf;
@@ -258,20 +259,28 @@ impl Variables {
         }
     }
 
-    /// Copies the variables and lists of an instance for a clone, which has none yet. The only error is want of memory, and
-    /// then nothing changes.
+    // A copy of the variables and lists of an instance under another number; of none where it has none. The only error is
+    // want of memory.
+    fn copied(&self, from: InstanceId, to: InstanceId) -> Result<Store, AllocError>
+        ensures copy { IfOk result (λ copy. copy ≡ record (store_at from self.now.stores) { of = to }) }
+        ensures short { IfOk result HasShortLists }
+    {
+        match self.place(from) {
+            Some(place) => store::copied(&self.stores[place], to),
+            None => Ok(store::empty(self.alloc, to)),
+        }
+    }
+
+    /// Copies the variables and lists of an instance for a clone, which has none yet. Where the instance has none the clone
+    /// gets no variables and no lists. The only error is want of memory, and then nothing changes.
     pub fn copy_for_clone(&mut self, from: InstanceId, to: InstanceId) -> Result<(), AllocError>
-        requires from { HasStore from self.old }
-        requires to { HasNoStore to self.old }
+        requires { HasNoStore to self.old }
         ensures ok { OnOk result (self.new ≡ record self.old { stores = self.old.stores ++ record (store_at from self.old.stores) { of = to } ∷ [] }) }
         ensures err { OnErr result (self.new ≡ self.old) }
         ensures others { (n : ℕ) → n ≢ to → store_at n self.new.stores ≡ store_at n self.old.stores }
         ensures copy { OnOk result (store_at to self.new.stores ≡ record (store_at from self.old.stores) { of = to }) }
     {
-        let copy = match self.place(from) {
-            Some(place) => store::copied(&self.stores[place], to)?,
-            None => unreachable!(),
-        };
+        let copy = self.copied(from, to)?;
         self.stores.push(copy)?;
         Ok(())
     }

@@ -11,7 +11,7 @@ ghost use Rattle.variables.specs.Kept.{IsAlike, HasShortLists};
 
 use crate::items;
 use scratch_number::{Num, add};
-use scratch_values::{Value, Values, to_number};
+use scratch_values::{Value, ValueLists, Values, to_number};
 use script_machine::{InstanceId, Store};
 use std::alloc::{AllocError, Global};
 
@@ -162,4 +162,15 @@ pub(crate) fn copied(store: &Store, to: InstanceId) -> Result<Store, AllocError>
         values,
         lists,
     })
+}
+
+// A store of no variables and no lists.
+pub(crate) fn empty(alloc: Global, of: InstanceId) -> Store
+    ensures { result ≡ record { of = of; values = []; lists = [] } }
+{
+    Store {
+        of,
+        values: Values::new(alloc),
+        lists: ValueLists::new(alloc),
+    }
 }

@@ -103,6 +103,10 @@ fn a_clone_has_variables_of_its_own(rt: HostRuntime) {
     assert!(rt; !variables.has_value(CLONE, 0));
     variables.drop_instance(STAGE);
     assert!(rt; !variables.has_value(STAGE, 0));
+    assert!(rt; !variables.has_store(CLONE));
+    variables.copy_for_clone(STAGE, CLONE).expect(&rt, "memory");
+    assert!(rt; variables.has_store(CLONE));
+    assert!(rt; !variables.has_value(CLONE, 0));
 }
 
 #[test]

@@ -1,8 +1,7 @@
 use Rattle.std.proofs.Common.{refl}
 use Rattle.sv_channels.specs.Counts.{Rose}
 use Rattle.player.specs.Limits.{project_limit}
-use Rattle.player.specs.Output.{whole}
-use Rattle.player.specs.Promise.{Outcome, Checks, AnswerCause, Wrote, Writes, told_counts}
+use Rattle.player.specs.Promise.{Outcome, Checks, told, AnswerCause, Wrote, Writes, told_counts}
 use Rattle.player.specs.declared.counts.Counts.{Counts}
 use Rattle.player.proofs.Calls.{fetched_file, check_reading, at_load, at_accepted, everywhere, refused_cause, played_cause, told_fetches}
 use Rattle.player.proofs.top.check.Goals as goal
@@ -29,7 +28,7 @@ returns-clause-exact g c =
     let wanted = Rose (g.H.Shelf.wants c.args.shelf.now) (g.H.Shelf.wants c.fetch.new.shelf) in
     let P : Outcome → Type 0 = λ o. AnswerCause failed wanted o.ending c.tell_counts.result in
     at_accepted Checks (λ files. told_counts) P held name c.deref.result.now c.in-Ok-count.counts (check_reading c.deref.result.now) project c.in-Ok-count.ensures
-    (everywhere held (played_cause whole failed wanted _ c.tell_counts.result c.tell_counts.ensures.cause))
+    (everywhere held (played_cause told failed wanted _ c.tell_counts.result tt c.tell_counts.ensures.cause))
 
 pub returns-clause-bytes : goal.returns-clause-bytes
 returns-clause-bytes g c =
@@ -50,4 +49,4 @@ returns-clause-writes g c =
     (everywhere held c.tell_counts.ensures.writes)
 
 pub returns-clause-fetches : goal.returns-clause-fetches
-returns-clause-fetches g c = (1, told_fetches _ c.tell_counts.result c.tell_counts.ensures.cause, c.in-Ok.ensures.calls)
+returns-clause-fetches g c = (1, told_fetches told _ c.tell_counts.result c.tell_counts.ensures.cause, c.in-Ok.ensures.calls)

@@ -3,11 +3,11 @@ use Rattle.std.proofs.Common.{◌≡◌, ◌-◌, true}
 use Rattle.script_machine.specs.Frame.{passes}
 use Rattle.project_check.specs.Loaded.{program_of}
 use Rattle.executions.specs.Seen.{seen}
-use Rattle.scheduling.specs.Resting.{IsResting}
+use Rattle.executions.specs.Resting.{IsIdle}
 use Rattle.scheduling.proofs.frames.passes.Given as goal
 
 abbrev pub invariant-loop-made : goal.invariant-loop-made
 invariant-loop-made g l = record {
-  resting : IsResting l.project l.state;
+  idle : IsIdle l.project l.state;
   same : passes (program_of l.project) l.warp l.passes true true (seen g.R.Rng.stream l.project l.fn.state) ≡ passes (program_of l.project) l.warp (l.passes - l.made) l.first l.active (seen g.R.Rng.stream l.project l.state);
 }

@@ -3,7 +3,7 @@ use Rattle.std.proofs.Common.{◌≡◌, ◌-◌, false}
 use Rattle.script_machine.specs.Slice.{pass, most_slices}
 use Rattle.project_check.specs.Loaded.{program_of}
 use Rattle.executions.specs.Seen.{seen}
-use Rattle.scheduling.specs.Resting.{IsResting}
+use Rattle.executions.specs.Resting.{IsResting}
 use Rattle.scheduling.proofs.passing.pass.Given as goal
 
 abbrev pub invariant-loop-slices : goal.invariant-loop-slices

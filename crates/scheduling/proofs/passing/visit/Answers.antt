@@ -3,8 +3,8 @@ use Rattle.std.proofs.Common.{Bool}
 use Rattle.scheduling.proofs.Visits.{can_turn, visit_stops, visit_goes, visit_kept}
 use Rattle.scheduling.proofs.passing.visit.Goals as goal
 
-pub turn-requires-clause-alive : goal.turn-requires-clause-alive
-turn-requires-clause-alive g c = can_turn g.R.Rng.stream c.args.project.now c.args.warp c.args.slot c.args.state.now c.requires.resting c.requires.alive _ c.set_status.ensures
+pub turn-requires : goal.turn-requires
+turn-requires g c = can_turn g.R.Rng.stream c.args.project.now c.args.warp c.args.slot c.args.state.now c.requires.resting c.requires.alive _ c.set_status.ensures
 
 pub returns-in-Ok-clause-ok : goal.returns-in-Ok-clause-ok
 returns-in-Ok-clause-ok g c = visit_goes g.R.Rng.stream c.args.project.now c.args.warp c.args.slot c.args.state.now c.requires.resting c.requires.alive _ c.set_status.ensures c.turn.new.state _ c.drop_detached.ensures _ c.in-Ok.ensures.ok c.is_active-active.ensures

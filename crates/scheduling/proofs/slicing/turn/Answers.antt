@@ -6,19 +6,19 @@ use Rattle.executions.specs.Seen.{seen}
 use Rattle.scheduling.proofs.Turns.{turn_ready, turn_slices, turn_done, turn_kept}
 use Rattle.scheduling.proofs.slicing.turn.Goals as goal
 
-pub slice-requires-clause-ready : goal.slice-requires-clause-ready
-slice-requires-clause-ready g c = turn_ready g.R.Rng.stream c.args.project.now c.args.warp c.args.slot _ c.requires.alive _ c.place-which.ensures c.if-has_block.ensures
+pub slice-requires : goal.slice-requires
+slice-requires g c = turn_ready g.R.Rng.stream c.args.project.now c.args.warp c.args.slot _ c.requires _ c.place-which.ensures c.if-has_block.ensures
 
 pub returns-then-has_block-clause-ok : goal.returns-then-has_block-clause-ok
 returns-then-has_block-clause-ok g c =
-    subst (λ o. IfOk c.slice.result (λ _. o ≡ Goes (seen g.R.Rng.stream c.args.project.now c.slice.new.state))) (sym (turn_slices g.R.Rng.stream c.args.project.now c.args.warp c.args.slot _ c.requires.alive _ c.place-which.ensures c.if-has_block.ensures)) c.slice.ensures.ok
+    subst (λ o. IfOk c.slice.result (λ _. o ≡ Goes (seen g.R.Rng.stream c.args.project.now c.slice.new.state))) (sym (turn_slices g.R.Rng.stream c.args.project.now c.args.warp c.args.slot _ c.requires _ c.place-which.ensures c.if-has_block.ensures)) c.slice.ensures.ok
 
 pub returns-then-has_block-clause-stop : goal.returns-then-has_block-clause-stop
 returns-then-has_block-clause-stop g c =
-    subst (λ o. StopIs c.slice.result o) (sym (turn_slices g.R.Rng.stream c.args.project.now c.args.warp c.args.slot _ c.requires.alive _ c.place-which.ensures c.if-has_block.ensures)) c.slice.ensures.stop
+    subst (λ o. StopIs c.slice.result o) (sym (turn_slices g.R.Rng.stream c.args.project.now c.args.warp c.args.slot _ c.requires _ c.place-which.ensures c.if-has_block.ensures)) c.slice.ensures.stop
 
 pub returns-else-has_block-clause-ok : goal.returns-else-has_block-clause-ok
-returns-else-has_block-clause-ok g c = turn_done g.R.Rng.stream c.args.project.now c.args.warp c.args.slot _ c.requires.alive _ c.place-which.ensures c.if-has_block.ensures _ c.finish.ensures
+returns-else-has_block-clause-ok g c = turn_done g.R.Rng.stream c.args.project.now c.args.warp c.args.slot _ c.requires _ c.place-which.ensures c.if-has_block.ensures _ c.finish.ensures
 
 pub returns-else-has_block-clause-kept : goal.returns-else-has_block-clause-kept
-returns-else-has_block-clause-kept g c = turn_kept g.R.Rng.stream c.args.project.now c.args.warp c.args.slot _ c.requires.alive _ c.place-which.ensures c.if-has_block.ensures _ c.finish.ensures
+returns-else-has_block-clause-kept g c = turn_kept g.R.Rng.stream c.args.project.now c.args.warp c.args.slot _ c.requires _ c.place-which.ensures c.if-has_block.ensures _ c.finish.ensures

@@ -27,3 +27,11 @@ returns-in-Start-clause-ok g c =
 pub returns-in-Start-clause-stop : goal.returns-in-Start-clause-stop
 returns-in-Start-clause-stop g c =
     stops_so g.R.Rng.stream c.args.project.now c.args.slot c.args.next.id c.args.control (control.Start c.get.result.now c.in-Start.wait) c.args.self.now c.args.late (c.in-Start.is ∙ ap (λ h. control.Start h c.in-Start.wait) (sym c.get.ensures)) c.start_hats.result c.start_hats.ensures.stop
+
+pub returns-in-Clone-clause-ok : goal.returns-in-Clone-clause-ok
+returns-in-Clone-clause-ok g c =
+    acts_so g.R.Rng.stream c.args.project.now c.args.slot c.args.next.id c.args.control (control.Clone c.in-Clone.of) c.args.self.now c.args.late c.in-Clone.is c.make_clone.new.self c.make_clone.result c.make_clone.ensures.ok
+
+pub returns-in-Clone-clause-stop : goal.returns-in-Clone-clause-stop
+returns-in-Clone-clause-stop g c =
+    stops_so g.R.Rng.stream c.args.project.now c.args.slot c.args.next.id c.args.control (control.Clone c.in-Clone.of) c.args.self.now c.args.late c.in-Clone.is c.make_clone.result c.make_clone.ensures.stop

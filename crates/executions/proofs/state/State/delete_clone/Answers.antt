@@ -19,6 +19,7 @@ returns-in-Ok-clause-after g c =
     delete_after g.R.Rng.stream c.args.project.now c.args.slot c.args.self.now c.requires.ready c.args.next (next_at c.args.project.now c.args.slot c.args.self.now c.requires.ready c.args.next c.args.which c.requires.at c.requires.next)
     c.dispose.new.self c.drop_instance.new.self c.dispose.ensures.new c.drop_instance.ensures.new clone
     c.drop_questions.new.targets c.drop_questions.new.devices c.drop_timers.new.self c.stop_of.new.self c.finish.new.self c.args.which c.requires.at c.in-Ok.ensures.ok c.drop_timers.ensures c.stop_of.ensures c.finish.ensures
+    c.drop_questions.ensures.cast
 
 pub returns-in-Err-clause-stop : goal.returns-in-Err-clause-stop
 returns-in-Err-clause-stop g c =

@@ -5,14 +5,14 @@ use Rattle.executions.proofs.state.State.stop_others.Goals as goal
 pub go_on-requires : goal.go_on-requires
 go_on-requires g c =
     stopped_at g.R.Rng.stream c.args.project.now c.args.slot c.args.self.now c.requires.ready c.args.next (next_at c.args.project.now c.args.slot c.args.self.now c.requires.ready c.args.next c.args.which c.requires.at c.requires.next)
-    c.args.which c.requires.at c.drop_questions.new.targets c.drop_questions.new.devices c.stop_of.new.self c.stop_of.ensures
+    c.args.which c.requires.at c.drop_questions.new.targets c.drop_questions.new.devices c.drop_questions.ensures.cast c.stop_of.new.self c.stop_of.ensures
 
 pub returns-in-Ok-clause-ok : goal.returns-in-Ok-clause-ok
 returns-in-Ok-clause-ok g c =
     others_go g.R.Rng.stream c.args.project.now c.args.slot c.args.self.now c.requires.ready c.args.next (next_at c.args.project.now c.args.slot c.args.self.now c.requires.ready c.args.next c.args.which c.requires.at c.requires.next)
-    c.args.which c.requires.at c.drop_questions.new.targets c.drop_questions.new.devices c.stop_of.new.self c.stop_of.ensures c.in-Ok.ensures.ok c.go_on.new.threads c.go_on.result c.go_on.ensures
+    c.args.which c.requires.at c.drop_questions.new.targets c.drop_questions.new.devices c.drop_questions.ensures.cast c.stop_of.new.self c.stop_of.ensures c.in-Ok.ensures.ok c.go_on.new.threads c.go_on.result c.go_on.ensures
 
 pub returns-in-Ok-clause-after : goal.returns-in-Ok-clause-after
 returns-in-Ok-clause-after g c =
     others_after g.R.Rng.stream c.args.project.now c.args.slot c.args.self.now c.requires.ready c.args.next (next_at c.args.project.now c.args.slot c.args.self.now c.requires.ready c.args.next c.args.which c.requires.at c.requires.next)
-    c.args.which c.requires.at c.drop_questions.new.targets c.drop_questions.new.devices c.stop_of.new.self c.stop_of.ensures c.in-Ok.ensures.ok c.go_on.new.threads c.go_on.result c.go_on.ensures c.requires.held
+    c.args.which c.requires.at c.drop_questions.new.targets c.drop_questions.new.devices c.drop_questions.ensures.cast c.stop_of.new.self c.stop_of.ensures c.in-Ok.ensures.ok c.go_on.new.threads c.go_on.result c.go_on.ensures c.requires.held

@@ -1,0 +1,4 @@
+pub mod Valued
+pub mod Noted
+pub mod Listing
+pub mod Passed

@@ -1,0 +1,18 @@
+-- Data changes no instance, and gives variables to none that has none.
+use Rattle.std.proofs.Common.{refl}
+use Rattle.script_machine.specs.declared.threads.Context.TheVariants.{Fresh}
+use Rattle.target_records.specs.Records.{records_in}
+use Rattle.data_blocks.specs.Blocks.{parts_of}
+use Rattle.executions.proofs.Unheld.{data_none}
+use Rattle.executions.proofs.state.State.apply_data.Goals as goal
+
+pub returns-in-Ok-clause-kept : goal.returns-in-Ok-clause-kept
+returns-in-Ok-clause-kept g c = record {
+  threads = refl;
+  next_thread = refl;
+  next_instance = refl;
+  targets = λ n. refl;
+  one_each = λ h. h;
+  free = λ n e. data_none n (records_in c.records.result.now) c.args.self.now.targets c.args.block.now.op c.args.args.now c.args.here (parts_of g.R.Rng.stream c.args.self.now.variables c.args.self.now.words)
+      (record { parts = parts_of g.R.Rng.stream c.apply.new.variables c.apply.new.words; context = Fresh; control = c.in-Ok.control; redraw = c.in-Ok.redraw }) c.in-Ok.ensures.ok e;
+}

@@ -1,0 +1,19 @@
+-- A clone is made where there is room, and the running thread is the same.
+use Rattle.executions.proofs.Beside.{next_is}
+use Rattle.executions.proofs.Clones.{clone_at, clone_acts, clone_after}
+use Rattle.executions.proofs.state.State.make_clone.Goals as goal
+
+pub go_on-requires : goal.go_on-requires
+go_on-requires g c =
+    clone_at g.R.Rng.stream c.args.project.now c.args.slot c.args.original c.args.self.now c.requires.ready c.args.next (next_is c.args.project.now c.args.slot c.args.self.now c.requires.ready c.args.next c.requires.next)
+    c.clone_unless.new.self c.in-Ok.ensures.ok c.in-Ok.ensures.runs c.place-which.result c.place-which.ensures
+
+pub returns-in-Ok-clause-ok : goal.returns-in-Ok-clause-ok
+returns-in-Ok-clause-ok g c =
+    clone_acts g.R.Rng.stream c.args.project.now c.args.slot c.args.original c.args.self.now c.requires.ready c.args.next (next_is c.args.project.now c.args.slot c.args.self.now c.requires.ready c.args.next c.requires.next)
+    c.clone_unless.new.self c.in-Ok.ensures.ok c.in-Ok.ensures.runs c.place-which.result c.place-which.ensures c.go_on.new.threads c.go_on.result c.go_on.ensures
+
+pub returns-in-Ok-clause-after : goal.returns-in-Ok-clause-after
+returns-in-Ok-clause-after g c =
+    clone_after g.R.Rng.stream c.args.project.now c.args.slot c.args.original c.args.self.now c.requires.ready c.args.next (next_is c.args.project.now c.args.slot c.args.self.now c.requires.ready c.args.next c.requires.next)
+    c.clone_unless.new.self c.in-Ok.ensures.ok c.in-Ok.ensures.runs c.place-which.result c.place-which.ensures c.go_on.new.threads c.go_on.result c.go_on.ensures c.requires.held c.in-Ok.ensures.kept

@@ -1,5 +1,0 @@
-pub mod FirstProject
-pub mod FirstOrder
-pub mod FirstForm
-pub mod FirstReads
-pub mod FirstViews

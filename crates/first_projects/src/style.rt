@@ -1,9 +1,0 @@
-//! How a sprite turns.
-
-/// The rotation style of a target (scratch-vm, sprites/rendered-target.js).
-#[derive(Clone, Copy, Debug, PartialEq, Eq)]
-pub enum Style {
-    AllAround,
-    LeftRight,
-    DontRotate,
-}

@@ -1,0 +1,40 @@
+-- How a block of looks stops.
+use Rattle.std.proofs.Common.{Bool, true, false, cond}
+use Rattle.std.specs.Prelude.{◌==◌, Result, Ok, Err, IfErr}
+use Rattle.scenes.specs.Stops.{IsOfBubbles}
+use Rattle.script_words.specs.declared.stops.CounterKind.TheVariants as counter
+use Rattle.script_words.specs.declared.stops.Stop.{Stop}
+use Rattle.script_words.specs.declared.stops.Stop.TheVariants.{Stack, Text, Counter, NoMemory}
+use Rattle.script_machine.specs.Outcome.{Goes, Spent, StopIs, last_number}
+use Rattle.script_machine.specs.Words.{Words, draw}
+use Rattle.looks_blocks.specs.Stops.{IsOfCountersOrMemory}
+
+by_room : {T A : Type 0} (b : Bool) (r : Result T Stop) (a : A) → StopIs r (cond b (Spent counter.Words) (Goes a)) → IfErr r IsOfCountersOrMemory
+by_room b (Ok t) a h = tt
+by_room true (Err Stack) a h = absurd (cc h)
+by_room false (Err Stack) a h = absurd (cc h)
+by_room true (Err (Text n)) a h = absurd (cc h)
+by_room false (Err (Text n)) a h = absurd (cc h)
+by_room true (Err (Counter counter.Words)) a h = tt
+by_room true (Err (Counter counter.Bubble)) a h = tt
+by_room true (Err (Counter counter.Thread)) a h = absurd (cc h)
+by_room true (Err (Counter counter.Instance)) a h = absurd (cc h)
+by_room true (Err (Counter counter.Frame)) a h = absurd (cc h)
+by_room false (Err (Counter which)) a h = absurd (cc h)
+by_room b (Err NoMemory) a h = tt
+
+-- no word is left, or memory ran out
+pub draw_stops : {T : Type 0} (r : Result T Stop) (w : Words) → StopIs r (draw w) → IfErr r IsOfCountersOrMemory
+draw_stops r w h = by_room (w.drawn == last_number) r _ h
+
+-- an update of a bubble has no number
+pub bubbles_stop : {T : Type 0} (r : Result T Stop) → IfErr r IsOfBubbles → IfErr r IsOfCountersOrMemory
+bubbles_stop (Ok t) h = tt
+bubbles_stop (Err Stack) h = absurd (cc h)
+bubbles_stop (Err (Text n)) h = absurd (cc h)
+bubbles_stop (Err (Counter counter.Bubble)) h = tt
+bubbles_stop (Err (Counter counter.Words)) h = tt
+bubbles_stop (Err (Counter counter.Thread)) h = absurd (cc h)
+bubbles_stop (Err (Counter counter.Instance)) h = absurd (cc h)
+bubbles_stop (Err (Counter counter.Frame)) h = absurd (cc h)
+bubbles_stop (Err NoMemory) h = tt

@@ -1,0 +1,150 @@
+//! Bubbles: say and think.
+
+ghost use Rattle.std.specs.Prelude.{◌≡◌, codes, IfErr, IfOk};
+ghost use Rattle.scenes.specs.Scenes.{scene_in};
+ghost use Rattle.looks_blocks.specs.Stops.{IsOfCountersOrMemory};
+ghost use Rattle.scratch_number.specs.Arithmetic.{add as sum};
+ghost use Rattle.script_machine.specs.Looks.{goes_on, shown_bubble, spoken, timed_bubble};
+ghost use Rattle.script_machine.specs.Outcome.{Goes, StopIs};
+ghost use Rattle.script_machine.specs.Parts.{bubble_updated};
+ghost use Rattle.script_machine.specs.Stores.{from_zero, less, seconds};
+ghost use Rattle.script_machine.specs.Texts as texts;
+ghost use Rattle.script_machine.specs.View.{number_at, value_at};
+ghost use Rattle.script_machine.specs.Words.{Words};
+ghost use Rattle.script_machine.specs.declared.threads.Context.TheVariants.{Spoken};
+ghost use Rattle.script_machine.specs.declared.threads.Control.TheVariants.{Promise};
+ghost use Rattle.targets.specs.Live.{IsSameCast};
+ghost use Rattle.looks_blocks.specs.Blocks.{leaves, parts};
+
+use crate::bubble_texts::bubble_text;
+use crate::own::{bubble_usage, given, is_visible};
+use block_arguments::number;
+use devices::{BubbleTimer, Devices, seconds};
+use scenes::update_bubble;
+use scratch_number::{Num, add, of_whole, order};
+use scratch_values::{Args, Value};
+use script_machine::{BubbleText, InstanceId, Say, Serial};
+use script_words::Stop;
+use std::alloc::{AllocError, Global};
+use std::cmp::Ordering;
+use targets::Targets;
+
+// What a bubble shows of the message. The only error is want of memory.
+fn message(alloc: Global, args: &Args<'_>) -> Result<BubbleText, AllocError>
+    ensures { IfOk result (λ t. t ≡ texts.bubble_text (value_at (codes "MESSAGE") args.entry.now)) }
+{
+    let zero = Value::Number(of_whole(0));
+    bubble_text(alloc, given(args, "MESSAGE", &zero))
+}
+
+// Shows the message in a bubble.
+#[tactic(auto, using(crate::proofs::Stopping::bubbles_stop))]
+fn speak(
+    alloc: Global,
+    args: &Args<'_>,
+    kind: Say,
+    here: InstanceId,
+    targets: &mut Targets,
+    devices: &mut Devices,
+) -> Result<(), Stop>
+    ensures ok { IfOk result (λ _. bubble_updated here kind (texts.bubble_text (value_at (codes "MESSAGE") args.entry.now)) (scene_in targets.old devices.old) ≡ Goes (scene_in targets.new devices.new)) }
+    ensures stop { StopIs result (bubble_updated here kind (texts.bubble_text (value_at (codes "MESSAGE") args.entry.now)) (scene_in targets.old devices.old)) }
+    ensures kind { IfErr result IsOfCountersOrMemory }
+    ensures cast { IsSameCast targets.old targets.new }
+{
+    let text = message(alloc, args)?;
+    update_bubble(targets, devices, here, kind, text)
+}
+
+// `say MESSAGE` and `think MESSAGE`: tells whether a redraw is requested.
+pub(crate) fn say(
+    alloc: Global,
+    args: &Args<'_>,
+    kind: Say,
+    here: InstanceId,
+    targets: &mut Targets,
+    devices: &mut Devices,
+) -> Result<bool, Stop>
+    ensures ok { IfOk result (λ redraw. (w : Words) → spoken kind args.entry.now here (parts targets.old devices.old w) (shown_bubble here) ≡ Goes (goes_on redraw (parts targets.new devices.new w))) }
+    ensures stop { StopIs result (bubble_updated here kind (texts.bubble_text (value_at (codes "MESSAGE") args.entry.now)) (scene_in targets.old devices.old)) }
+    ensures kind { IfErr result IsOfCountersOrMemory }
+    ensures cast { IsSameCast targets.old targets.new }
+{
+    match speak(alloc, args, kind, here, targets, devices) {
+        Ok(()) => Ok(is_visible(here, targets)),
+        Err(stop) => Err(stop),
+    }
+}
+
+// Whether a number is less than another; what is not a number is neither.
+fn is_less(a: Num, b: Num) -> bool
+    ensures { result ≡ less a b }
+{
+    match order(a, b) {
+        Some(Ordering::Less) => true,
+        Some(Ordering::Equal) => false,
+        Some(Ordering::Greater) => false,
+        None => false,
+    }
+}
+
+// The larger of 0 and a number; 0 where it is not a number.
+fn from_zero(n: Num) -> Num
+    ensures { result ≡ from_zero n }
+{
+    let above = n;
+    if is_less(of_whole(0), above) {
+        n
+    } else {
+        of_whole(0)
+    }
+}
+
+// When so many seconds from now are over; never, where they are infinite.
+fn due_in(secs: Num, devices: &Devices) -> Num
+    ensures { result ≡ sum (seconds devices.now.clock) (from_zero secs) }
+{
+    add(seconds(devices.clock()), from_zero(secs))
+}
+
+// The timer of the bubble of an instance. The only error is want of memory.
+fn time(
+    secs: Num,
+    here: InstanceId,
+    thread: Serial,
+    targets: &Targets,
+    devices: &mut Devices,
+) -> Result<bool, AllocError>
+    ensures ok { IfOk result (λ redraw. (w : Words) → timed_bubble secs here thread (parts targets.now devices.old w) ≡ leaves (parts targets.now devices.new w) Spoken Promise redraw) }
+{
+    let timer = BubbleTimer {
+        due: due_in(secs, devices),
+        of: here,
+        thread,
+        usage: bubble_usage(here, targets),
+    };
+    devices.speak_until(timer)?;
+    Ok(is_visible(here, targets))
+}
+
+// `say MESSAGE for SECS seconds` and `think MESSAGE for SECS seconds`: it waits for the end of the bubble's timer. Tells
+// whether a redraw is requested.
+pub(crate) fn say_for_secs(
+    alloc: Global,
+    args: &Args<'_>,
+    kind: Say,
+    here: InstanceId,
+    thread: Serial,
+    targets: &mut Targets,
+    devices: &mut Devices,
+) -> Result<bool, Stop>
+    ensures ok { IfOk result (λ redraw. (w : Words) → spoken kind args.entry.now here (parts targets.old devices.old w) (timed_bubble (number_at (codes "SECS") args.entry.now) here thread) ≡ Goes (leaves (parts targets.new devices.new w) Spoken Promise redraw)) }
+    ensures stop { StopIs result (bubble_updated here kind (texts.bubble_text (value_at (codes "MESSAGE") args.entry.now)) (scene_in targets.old devices.old)) }
+    ensures kind { IfErr result IsOfCountersOrMemory }
+    ensures cast { IsSameCast targets.old targets.new }
+{
+    match speak(alloc, args, kind, here, targets, devices) {
+        Ok(()) => Ok(time(number(args, "SECS"), here, thread, targets, devices)?),
+        Err(stop) => Err(stop),
+    }
+}

@@ -1,0 +1,139 @@
+//! The costumes of an instance.
+
+ghost use Rattle.std.specs.Prelude.{◌≡◌, ◌<◌, ◌+◌, ◌%◌, ◌^◌, [], length, option_map, slice_index_or, IfErr, IfOk, IsTrue, ◌↔◌};
+ghost use Rattle.script_machine.specs.Costume.{costume_index};
+ghost use Rattle.script_machine.specs.Looks.{next_costume, switched_to, with_costume};
+ghost use Rattle.script_machine.specs.Outcome.{Goes, StopIs};
+ghost use Rattle.script_machine.specs.Program.{record_at};
+ghost use Rattle.script_machine.specs.Sensing as machine;
+ghost use Rattle.script_machine.specs.Stores.{instance_at};
+ghost use Rattle.script_machine.specs.Words.{seen_words};
+ghost use Rattle.target_records.specs.Records.{records_in};
+ghost use Rattle.looks_blocks.specs.Choices.{place_in};
+ghost use Rattle.looks_blocks.specs.Costumes.{HasCostumes, IsDressed};
+ghost use Rattle.looks_blocks.specs.Stops.{IsOfCountersOrMemory};
+
+use crate::choices::choice_of;
+use crate::picking::{Pick, index_behind, pick_for};
+use scratch_values::{BoundText, Value};
+use script_machine::{InstanceId, TargetId};
+use script_words::{Counted, Rng, Stop};
+use target_records::Records;
+use targets::Targets;
+
+// The names of the costumes of a target.
+fn costumes(records: &Records, target: TargetId) -> &[BoundText]
+    requires { IsDressed (record_at target (records_in records.now)) }
+    ensures { result.now ≡ (record_at target (records_in records.now)).costumes }
+{
+    if target.0 >= records.targets() {
+        unreachable!()
+    }
+    records.target(target).costumes.as_slice()
+}
+
+// The target of an instance; the first one where none is live.
+fn target(of: InstanceId, targets: &Targets) -> TargetId
+    ensures { result ≡ (instance_at of targets.now).of }
+{
+    match targets.get(of) {
+        Some(instance) => instance.of,
+        None => TargetId(0),
+    }
+}
+
+// How many costumes a target has; none where there is no such target.
+fn count(target: TargetId, records: &Records) -> usize
+    ensures { result ≡ length (record_at target (records_in records.now)).costumes }
+{
+    if target.0 >= records.targets() {
+        return 0;
+    }
+    records.target(target).costumes.len()
+}
+
+/// Whether the target of an instance has a costume, and fewer than 2^32. Where the instance is not live it is the first
+/// target that counts.
+pub fn has_costumes(of: InstanceId, records: &Records, targets: &Targets) -> bool
+    ensures { IsTrue result ↔ HasCostumes (records_in records.now) (instance_at of targets.now) }
+{
+    let count = count(target(of, targets), records);
+    count > 0 && count < 4_294_967_296
+}
+
+// The present costume of an instance, from 0.
+fn costume(of: InstanceId, targets: &Targets) -> u32
+    ensures { result ≡ (instance_at of targets.now).costume }
+{
+    match targets.get(of) {
+        Some(instance) => instance.costume,
+        None => 0,
+    }
+}
+
+// The name at a place; empty where there is none.
+fn name_at(names: &[BoundText], place: u32) -> &str
+    ensures { result.now ≡ slice_index_or names.now place [] }
+{
+    match names.get(place as usize) {
+        Some(name) => name.as_str(),
+        None => "",
+    }
+}
+
+// The name of a costume of a target; empty where there is none.
+fn costume_name(records: &Records, target: TargetId, costume: u32) -> &str
+    ensures { result.now ≡ slice_index_or (record_at target (records_in records.now)).costumes costume [] }
+{
+    if target.0 >= records.targets() {
+        return "";
+    }
+    name_at(records.target(target).costumes.as_slice(), costume)
+}
+
+// The name of the present costume of an instance.
+pub(crate) fn present_name<'r>(of: InstanceId, records: &'r Records, targets: &Targets) -> &'r str
+    ensures { result.now ≡ machine.costume_name (records_in records.now) (instance_at of targets.now) }
+{
+    costume_name(records, target(of, targets), costume(of, targets))
+}
+
+// The costume that a value picks for an instance, by the rule of costumes or that of backdrops.
+pub(crate) fn asked_for<R: Rng + Drop>(
+    is_backdrop: bool,
+    value: &Value,
+    of: InstanceId,
+    records: &Records,
+    targets: &Targets,
+    words: &mut Counted<R>,
+) -> Result<Option<Pick>, Stop>
+    requires { HasCostumes (records_in records.now) (instance_at of targets.now) }
+    ensures ok { IfOk result (λ pick. switched_to is_backdrop value.now (records_in records.now) (instance_at of targets.now) (seen_words R.stream words.old) ≡ Goes (record { value = option_map place_in pick; words = seen_words R.stream words.new })) }
+    ensures stop { StopIs result (switched_to is_backdrop value.now (records_in records.now) (instance_at of targets.now) (seen_words R.stream words.old)) }
+    ensures kind { IfErr result IsOfCountersOrMemory }
+{
+    let names = costumes(records, target(of, targets));
+    let now = costume(of, targets);
+    let choice = choice_of(is_backdrop, names, now, value);
+    pick_for(choice, names.len() as u32, now, words)
+}
+
+// The next of so many costumes.
+fn behind(costume: u32, costumes: u32) -> Pick
+    requires { 0 < costumes }
+    ensures { place_in result ≡ (costume + 1) % costumes }
+{
+    Pick {
+        index: index_behind(costume),
+        costumes,
+    }
+}
+
+// The next costume of an instance.
+pub(crate) fn next(of: InstanceId, records: &Records, targets: &Targets) -> Pick
+    requires { HasCostumes (records_in records.now) (instance_at of targets.now) }
+    ensures { with_costume (place_in result) (instance_at of targets.now) ≡ next_costume (records_in records.now) (instance_at of targets.now) }
+{
+    let names = costumes(records, target(of, targets));
+    behind(costume(of, targets), names.len() as u32)
+}

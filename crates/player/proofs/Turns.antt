@@ -1,0 +1,101 @@
+-- One line of a script.
+use Rattle.std.proofs.Common.{◌≡◌, ℕ, ◌+◌, List, [], ◌∷◌, Option, None, Some, Err, refl, sym, ap, ◌∙◌, subst}
+use Rattle.std.specs.Prelude.{drop, option_map, codes, ◌++◌}
+use Rattle.std.specs.Fmt.{digits}
+use Rattle.script_words.specs.declared.stops.Stop.TheVariants as stop
+use Rattle.script_machine.specs.declared.lines.Line.{Line}
+use Rattle.script_machine.specs.declared.lines.LineRefusal.{LineRefusal}
+use Rattle.script_machine.specs.declared.lines.LineRefusal.TheVariants as line_refusal
+use Rattle.script_machine.specs.Line.{after}
+use Rattle.script_machine.specs.Outcome.{Outcome, Goes, Full, TooLong, Spent}
+use Rattle.script_machine.specs.Output.{Output, Whole, BadLine, Limited, ends, in_front, limit_line, played_line, played_reading, played}
+use Rattle.script_machine.specs.Program.{Program}
+use Rattle.script_machine.specs.ScriptText.{Reading, Good, Refused, reading_of, clock_after}
+use Rattle.script_machine.specs.Tasks.{Task}
+use Rattle.script_machine.specs.World.{World}
+use Rattle.input_script.specs.Reader.{Reader, first_reading, next_reading, Refuses}
+use Rattle.player.specs.Promise.{stop_of}
+use Rattle.player.specs.Stages.{line_writes, met, LineEnds, IsLineEnd}
+use Rattle.player.specs.declared.status.Limit.{Limit as LimitMet}
+use Rattle.player.specs.declared.status.Limit.TheVariants as limit
+use Rattle.player.specs.declared.status.Status.{Status}
+use Rattle.player.specs.declared.status.Status.TheVariants.{Done, Usage, ReadFault, WriteFault, BadProject, BadScript, Limit, TooLarge, NoMemory}
+use Rattle.player.proofs.Outputs.{IsLast}
+
+-- what follows a line: the lines behind it, or nothing where it reached a limit
+abbrev pub follows : Program → (n last : ℕ) → Outcome (World Task) → List (List ℕ) → Output
+follows p n last (Goes w) lines = played p n last w lines
+follows p n last Full lines = ends [] (Limited stop.Stack)
+follows p n last (TooLong m) lines = ends [] (Limited (stop.Text m))
+follows p n last (Spent which) lines = ends [] (Limited (stop.Counter which))
+
+line_turn : (p : Program) (l : Line) (n last : ℕ) (o : Outcome (World Task)) (lines : List (List ℕ)) → played_line p l o (λ v. played p n last v lines) ≡ in_front (line_writes p l o) (follows p n last o lines)
+line_turn p l n last (Goes w) lines = refl
+line_turn p l n last Full lines = refl
+line_turn p l n last (TooLong m) lines = refl
+line_turn p l n last (Spent which) lines = refl
+
+-- a good line
+read_good : (p : Program) (n last : ℕ) (w : World Task) (lines : List (List ℕ)) (l : Line) → first_reading n last lines ≡ Some (Good l)
+    → played p n last w lines ≡ in_front (line_writes p l (after p l w)) (follows p (n + 1) (clock_after last (Good l)) (after p l w) (drop 1 lines))
+read_good p n last w [] l e = absurd (cc e)
+read_good p n last w (bytes ∷ lines) l e =
+    let is : reading_of n last bytes ≡ Good l = cc e in
+    ap (λ r. played_reading p w r (λ v. played p (n + 1) (clock_after last r) v lines)) is
+    ∙ line_turn p l (n + 1) (clock_after last (Good l)) (after p l w) lines
+
+pub turn_good : (p : Program) (r : Reader) (w : World Task) (l : Line) → next_reading r ≡ option_map Good (Some l)
+    → played p (r.number + 1) r.last w r.lines ≡ in_front (line_writes p l (after p l w)) (follows p (r.number + 1 + 1) (clock_after r.last (Good l)) (after p l w) (drop 1 r.lines))
+turn_good p r w l e = read_good p (r.number + 1) r.last w r.lines l e
+
+-- no line
+read_none : (p : Program) (n last : ℕ) (w : World Task) (lines : List (List ℕ)) → first_reading n last lines ≡ None → played p n last w lines ≡ ends [] (Whole w)
+read_none p n last w [] e = refl
+read_none p n last w (bytes ∷ lines) e = absurd (cc e)
+
+pub turn_none : (p : Program) (r : Reader) (w : World Task) → next_reading r ≡ option_map Good None → played p (r.number + 1) r.last w r.lines ≡ ends [] (Whole w)
+turn_none p r w e = read_none p (r.number + 1) r.last w r.lines e
+
+-- a refused line
+read_refused : (p : Program) (n last : ℕ) (w : World Task) (lines : List (List ℕ)) (x : LineRefusal) → first_reading n last lines ≡ Some (Refused x) → played p n last w lines ≡ ends [] (BadLine x)
+read_refused p n last w [] x e = absurd (cc e)
+read_refused p n last w (bytes ∷ lines) x e =
+    let is : reading_of n last bytes ≡ Refused x = cc e in
+    ap (λ r. played_reading p w r (λ v. played p (n + 1) (clock_after last r) v lines)) is
+
+refusal_is : (T : Type 0) (x : LineRefusal) (r : Option Reading) → (x ≡ line_refusal.NoMemory → ⊥) → Refuses {T = T} (Err x) r → r ≡ Some (Refused x)
+refusal_is T (line_refusal.NotUtf8 n) r k h = h
+refusal_is T (line_refusal.UnknownLine n) r k h = h
+refusal_is T (line_refusal.BadNumber n) r k h = h
+refusal_is T (line_refusal.OutOfRange n) r k h = h
+refusal_is T (line_refusal.ClockBack n was is) r k h = h
+refusal_is T line_refusal.NoMemory r k h = absurd (k refl)
+
+pub turn_refused : (T : Type 0) (p : Program) (r : Reader) (w : World Task) (x : LineRefusal) → (x ≡ line_refusal.NoMemory → ⊥) → Refuses {T = T} (Err x) (next_reading r)
+    → played p (r.number + 1) r.last w r.lines ≡ ends [] (BadLine x)
+turn_refused T p r w x k h = read_refused p (r.number + 1) r.last w r.lines x (refusal_is T x (next_reading r) k h)
+
+-- a limit ends the run
+met_ends : (p : Program) (n last : ℕ) (lines : List (List ℕ)) (l : LimitMet) → follows p n last (met l) lines ≡ ends [] (Limited (stop_of l))
+met_ends p n last lines limit.Stack = refl
+met_ends p n last lines (limit.Text m) = refl
+met_ends p n last lines (limit.Counter which) = refl
+
+pub limit_ends : (p : Program) (n last : ℕ) (lines : List (List ℕ)) (o : Outcome (World Task)) (l : LimitMet) → o ≡ met l → follows p n last o lines ≡ ends [] (Limited (stop_of l))
+limit_ends p n last lines o l e = ap (λ x. follows p n last x lines) e ∙ met_ends p n last lines l
+
+pub line_last : (p : Program) (n last : ℕ) (lines : List (List ℕ)) (o : Outcome (World Task)) (status : Status) → LineEnds {A = Unit {0}} o (Err status) → IsLast status (follows p n last o lines)
+line_last p n last lines o (Limit l) h = ap (λ (x : Output). x.writes) (limit_ends p n last lines o l h)
+line_last p n last lines o Done h = tt
+line_last p n last lines o Usage h = tt
+line_last p n last lines o ReadFault h = tt
+line_last p n last lines o WriteFault h = tt
+line_last p n last lines o (BadProject r) h = tt
+line_last p n last lines o (BadScript r) h = tt
+line_last p n last lines o (TooLarge file m) h = tt
+line_last p n last lines o NoMemory h = tt
+
+-- The lines of limits.
+pub stack_line : limit_line stop.Stack ≡ codes "limit stack 65536" ++ 10 ∷ []
+unfolding digits
+stack_line = refl

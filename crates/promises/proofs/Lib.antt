@@ -1,0 +1,3 @@
+pub mod Resumes
+pub mod Asked
+pub mod Endings

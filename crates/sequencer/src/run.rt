@@ -1,0 +1,139 @@
+//! A run.
+
+ghost use Rattle.std.specs.Prelude.{◌≡◌, ◌≤◌, false, IfOk, OnOk};
+ghost use Rattle.script_machine.specs.First.{first_world};
+ghost use Rattle.script_machine.specs.Frame as machine;
+ghost use Rattle.script_machine.specs.Line as lines;
+ghost use Rattle.script_machine.specs.Outcome.{Goes, StopIs};
+ghost use Rattle.script_machine.specs.Words.{seen_words};
+ghost use Rattle.project_check.specs.Loaded.{program_of};
+ghost use Rattle.executions.specs.Ready.{AreDressed};
+ghost use Rattle.sequencer.specs.Runs.{world_of, IsRunOf};
+ghost use Rattle.input_lines.specs.Frames.{is_frame};
+
+use devices::Devices;
+use executions::State;
+use project_check::Project;
+use script_machine::{Budget, Line};
+use script_words::{Counted, Rng, Stop};
+use std::alloc::{AllocError, Global};
+use targets::Targets;
+use thread_frames::Threads;
+use variables::Variables;
+
+/// A run of a project. It keeps no project: each call is given the one that the run was opened with.
+#[derive(Drop)]
+pub struct Run<R> {
+    alloc: Global,
+    state: State<R>,
+}
+
+impl<R: Rng + Drop> Run<R> {
+    /// The run with which a project begins: its originals in executable order, their variables and lists, no threads; the
+    /// clock stands at 0. Each target has a costume, as those of a loaded project have. The only error is want of memory.
+    pub fn open(alloc: Global, project: &Project, words: Counted<R>) -> Result<Run<R>, AllocError>
+        requires dressed { AreDressed project.now }
+        ensures world { IfOk result (λ run. world_of R.stream project.now run ≡ first_world (program_of project.now) (seen_words R.stream words)) }
+        ensures fits { IfOk result (λ run. IsRunOf project.now run) }
+    {
+        let state = State::open(alloc, project, words)?;
+        Ok(Run { alloc, state })
+    }
+
+    /// Applies a line of an input script that is no frame. `Stop` is the first limit that is met, and `NoMemory` only for
+    /// want of memory. After a stop the run is only dropped.
+    pub fn apply_line(&mut self, project: &Project, line: Line) -> Result<(), Stop>
+        requires fits { IsRunOf project.now self.old }
+        requires event { is_frame line ≡ false }
+        ensures ok { OnOk result (lines.after (program_of project.now) line (world_of R.stream project.now self.old) ≡ Goes (world_of R.stream project.now self.new)) }
+        ensures stop { StopIs result (lines.after (program_of project.now) line (world_of R.stream project.now self.old)) }
+        ensures fits { OnOk result (IsRunOf project.now self.new) }
+        ensures clock { OnOk result (self.new.state.devices.clock ≡ self.old.state.devices.clock) }
+    {
+        input_lines::apply_line(&mut self.state, self.alloc, project, line)
+    }
+
+    /// Makes a frame: the clock is set, due bubble timers end, edge hats are evaluated, and passes are made (scratch-vm,
+    /// engine/runtime.js, _step). `Stop` is the first limit that is met, and `NoMemory` only for want of memory. After a stop
+    /// the run is only dropped.
+    pub fn frame(&mut self, project: &Project, budget: &Budget) -> Result<(), Stop>
+        requires fits { IsRunOf project.now self.old }
+        requires clock { self.old.state.devices.clock ≤ budget.now.clock }
+        ensures ok { OnOk result (machine.frame (program_of project.now) budget.now (world_of R.stream project.now self.old) ≡ Goes (world_of R.stream project.now self.new)) }
+        ensures stop { StopIs result (machine.frame (program_of project.now) budget.now (world_of R.stream project.now self.old)) }
+        ensures fits { OnOk result (IsRunOf project.now self.new) }
+        ensures clock { OnOk result (self.new.state.devices.clock ≡ budget.now.clock) }
+    {
+        frames::frame(&mut self.state, self.alloc, project, budget)
+    }
+
+    /// The clock in milliseconds.
+    pub fn clock(&self) -> u64
+        ensures { result ≡ self.now.state.devices.clock }
+    {
+        self.state.devices.clock()
+    }
+
+    /// The number of frames that were made.
+    pub fn frame_number(&self) -> u64
+        ensures { result ≡ self.now.state.frame }
+    {
+        self.state.frame
+    }
+
+    /// The random words, with their number.
+    pub fn words(&self) -> &Counted<R>
+        ensures { result.now ≡ self.now.state.words }
+    {
+        &self.state.words
+    }
+
+    /// The number that the next thread gets.
+    pub fn next_thread(&self) -> u64
+        ensures { result ≡ self.now.state.next_thread }
+    {
+        self.state.next_thread
+    }
+
+    /// The number that the next clone gets.
+    pub fn next_instance(&self) -> u64
+        ensures { result ≡ self.now.state.next_instance }
+    {
+        self.state.next_instance
+    }
+
+    /// Whether a redraw is requested.
+    pub fn redraw(&self) -> bool
+        ensures { result ≡ self.now.state.redraw }
+    {
+        self.state.redraw
+    }
+
+    /// The instances.
+    pub fn targets(&self) -> &Targets
+        ensures { result.now ≡ self.now.state.targets }
+    {
+        &self.state.targets
+    }
+
+    /// The variables, lists and monitors.
+    pub fn variables(&self) -> &Variables
+        ensures { result.now ≡ self.now.state.variables }
+    {
+        &self.state.variables
+    }
+
+    /// The devices.
+    pub fn devices(&self) -> &Devices
+        ensures { result.now ≡ self.now.state.devices }
+    {
+        &self.state.devices
+    }
+
+    /// The threads.
+    pub fn threads(&self) -> &Threads
+        ensures { result.now ≡ self.now.state.threads }
+    {
+        &self.state.threads
+    }
+}

@@ -1,0 +1,4 @@
+pub mod FoundLines
+pub mod Lines
+pub mod Turns
+pub mod Whole

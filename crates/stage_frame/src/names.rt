@@ -1,0 +1,108 @@
+//! Names of targets, costumes, variables and lists.
+
+ghost use Rattle.std.specs.Prelude.{◌≡◌, [], slice_get, slice_index_or, unwrap_or, IfSome};
+ghost use Rattle.std.specs.Option.{option_map};
+ghost use Rattle.script_machine.specs.FrameText as machine;
+ghost use Rattle.script_machine.specs.Program.{record_at};
+ghost use Rattle.target_records.specs.Held.{IsSmall};
+ghost use Rattle.target_records.specs.Records.{records_in};
+
+use script_machine::{CostumeNames, ListRecords, TargetId, TargetRecord, VariableRecords};
+use target_records::Records;
+
+// The record of a target, if there is one.
+pub(crate) fn record(records: &Records, target: TargetId) -> Option<&TargetRecord>
+    ensures record { option_map (λ t. t.now) result ≡ slice_get (records_in records.now).targets target }
+    ensures small { IfSome result (λ t. IsSmall t.now) }
+{
+    if target.0 >= records.targets() {
+        return None;
+    }
+    Some(records.target(target))
+}
+
+// The name of a target; empty where there is none.
+pub(crate) fn target_name(records: &Records, target: TargetId) -> &str
+    ensures { result.now ≡ (record_at target (records_in records.now)).name }
+{
+    match record(records, target) {
+        Some(record) => record.name.as_str(),
+        None => "",
+    }
+}
+
+// The name of a target, unless it is the stage.
+pub(crate) fn sprite_name(records: &Records, target: TargetId) -> Option<&str>
+    ensures { option_map (λ name. name.now) result ≡ machine.target_name (records_in records.now) target }
+{
+    match record(records, target) {
+        Some(record) => {
+            if record.is_stage {
+                None
+            } else {
+                Some(record.name.as_str())
+            }
+        }
+        None => Some(""),
+    }
+}
+
+// A name of costumes; empty where there is none at the place.
+fn costume_at(names: &CostumeNames, place: u32) -> &str
+    ensures { result.now ≡ slice_index_or names.now place [] }
+{
+    match names.get(place as usize) {
+        Some(name) => name.as_str(),
+        None => "",
+    }
+}
+
+// The name of a costume of a target; empty where there is none.
+pub(crate) fn costume_name(records: &Records, target: TargetId, costume: u32) -> &str
+    ensures { result.now ≡ slice_index_or (record_at target (records_in records.now)).costumes costume [] }
+{
+    match record(records, target) {
+        Some(record) => costume_at(&record.costumes, costume),
+        None => "",
+    }
+}
+
+// The name of a variable; empty where there is none.
+fn variable_at(variables: &VariableRecords, index: u32) -> &str
+    ensures { result.now ≡ unwrap_or (option_map (λ r. r.name.name) (slice_get variables.now index)) [] }
+{
+    match variables.get(index as usize) {
+        Some(variable) => variable.name.name.as_str(),
+        None => "",
+    }
+}
+
+// The name of a variable of a target; empty where there is none.
+pub(crate) fn variable_name(records: &Records, target: TargetId, index: u32) -> &str
+    ensures { result.now ≡ machine.variable_name (records_in records.now) target index }
+{
+    match record(records, target) {
+        Some(record) => variable_at(&record.variables, index),
+        None => "",
+    }
+}
+
+// The name of a list; empty where there is none.
+fn list_at(lists: &ListRecords, index: u32) -> &str
+    ensures { result.now ≡ unwrap_or (option_map (λ r. r.name.name) (slice_get lists.now index)) [] }
+{
+    match lists.get(index as usize) {
+        Some(list) => list.name.name.as_str(),
+        None => "",
+    }
+}
+
+// The name of a list of a target; empty where there is none.
+pub(crate) fn list_name(records: &Records, target: TargetId, index: u32) -> &str
+    ensures { result.now ≡ machine.list_name (records_in records.now) target index }
+{
+    match record(records, target) {
+        Some(record) => list_at(&record.lists, index),
+        None => "",
+    }
+}
