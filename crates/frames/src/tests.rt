@@ -1,10 +1,9 @@
 //! Frames of small projects: how often a script has added 1 to the variable n.
 
-ghost use Rattle.executions.specs.Ready.{AreDressed};
 ghost use Rattle.executions.specs.Resting.{IsIdle};
 
 use crate::frame;
-use executions::{State, is_dressed};
+use executions::State;
 use project_check::{Project, load};
 use scratch_number::{Num, of_whole};
 use scratch_values::to_number;
@@ -20,14 +19,9 @@ static COUNTING: &str =
 static TIMED: &str =
     r#"{"targets":[{"isStage":true,"name":"Stage","variables":{"v":["n",0]},"costumes":[{"name":"b"}],"blocks":{"h":{"opcode":"event_whengreaterthan","next":"c","topLevel":true,"inputs":{"VALUE":[1,[4,"0.05"]]},"fields":{"WHENGREATERTHANMENU":["TIMER",null]}},"c":{"opcode":"data_changevariableby","inputs":{"VALUE":[1,[4,"1"]]},"fields":{"VARIABLE":["n","v"]}}}}]}"#;
 
-// A project whose targets have costumes.
-fn loaded(rt: &(impl Abort + AllocGlobal), text: &str) -> Project
-    ensures { AreDressed result }
-{
+fn loaded(rt: &(impl Abort + AllocGlobal), text: &str) -> Project {
     assert!(rt; text.len() < 1 << 20);
-    let project = load(rt.alloc(), text.as_bytes()).expect(rt, "a project");
-    assert!(rt; is_dressed(&project));
-    project
+    load(rt.alloc(), text.as_bytes()).expect(rt, "a project")
 }
 
 // The number that n is after one more frame, at a clock and with 30 passes.

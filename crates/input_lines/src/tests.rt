@@ -5,7 +5,7 @@ ghost use Rattle.executions.specs.Resting.{IsIdle};
 ghost use Rattle.input_lines.specs.Frames.{is_frame};
 
 use crate::apply_line;
-use executions::{State, is_dressed};
+use executions::State;
 use project_check::{Project, load};
 use rand_pcg::Pcg32;
 use scheduling::passes;
@@ -73,9 +73,6 @@ fn project(rt: &(impl Abort + AllocGlobal)) -> Project {
 fn opened(alloc: Global, project: &Project) -> Result<State<Pcg32>, AllocError>
     ensures { IfOk result (λ state. IsIdle project.now state) }
 {
-    if !is_dressed(project) {
-        return Err(AllocError);
-    }
     State::open(alloc, project, pcg(1, 0))
 }
 

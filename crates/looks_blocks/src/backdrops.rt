@@ -1,6 +1,6 @@
 //! Backdrops: the costumes of the stage, and the hats for them.
 
-ghost use Rattle.std.specs.Prelude.{◌≡◌, ◌&&◌, codes, false, option_map, true, IfErr, IfOk, IsTrue, ◌↔◌};
+ghost use Rattle.std.specs.Prelude.{◌≡◌, ◌&&◌, codes, false, option_map, true, IfErr, IfOk};
 ghost use Rattle.opcode_table.specs.declared.kinds.Kind.TheVariants.{Starts};
 ghost use Rattle.script_machine.specs.Looks as machine;
 ghost use Rattle.script_machine.specs.Looks.{backdrop_and_wait, backdrop_hats, backdrop_switched, changed, with_backdrop};
@@ -23,7 +23,7 @@ ghost use Rattle.looks_blocks.specs.Keeps.{KeepsWell};
 ghost use Rattle.looks_blocks.specs.Stops.{IsOfCountersOrMemory};
 
 use crate::costumes::next_costume;
-use crate::dress::{asked_for, has_costumes, present_name};
+use crate::dress::{asked_for, present_name};
 use crate::own::given;
 use crate::picking::Pick;
 use project_json::Text;
@@ -41,13 +41,6 @@ fn stage(records: &Records) -> InstanceId
     ensures { result ≡ stage_number (records_in records.now) }
 {
     InstanceId(u64::from(records.stage().0))
-}
-
-/// Whether the target of the stage's original has a costume, and fewer than 2^32.
-pub fn has_backdrops(records: &Records, targets: &Targets) -> bool
-    ensures { IsTrue result ↔ HasCostumes (records_in records.now) (instance_at (stage_number (records_in records.now)) targets.now) }
-{
-    has_costumes(stage(records), records, targets)
 }
 
 // Puts the backdrop up that is picked, if one is.

@@ -1,6 +1,6 @@
 //! The costumes of an instance.
 
-ghost use Rattle.std.specs.Prelude.{◌≡◌, ◌<◌, ◌+◌, ◌%◌, ◌^◌, [], length, option_map, slice_index_or, IfErr, IfOk, IsTrue, ◌↔◌};
+ghost use Rattle.std.specs.Prelude.{◌≡◌, ◌<◌, ◌+◌, ◌%◌, [], option_map, slice_index_or, IfErr, IfOk};
 ghost use Rattle.script_machine.specs.Costume.{costume_index};
 ghost use Rattle.script_machine.specs.Looks.{next_costume, switched_to, with_costume};
 ghost use Rattle.script_machine.specs.Outcome.{Goes, StopIs};
@@ -40,25 +40,6 @@ fn target(of: InstanceId, targets: &Targets) -> TargetId
         Some(instance) => instance.of,
         None => TargetId(0),
     }
-}
-
-// How many costumes a target has; none where there is no such target.
-fn count(target: TargetId, records: &Records) -> usize
-    ensures { result ≡ length (record_at target (records_in records.now)).costumes }
-{
-    if target.0 >= records.targets() {
-        return 0;
-    }
-    records.target(target).costumes.len()
-}
-
-/// Whether the target of an instance has a costume, and fewer than 2^32. Where the instance is not live it is the first
-/// target that counts.
-pub fn has_costumes(of: InstanceId, records: &Records, targets: &Targets) -> bool
-    ensures { IsTrue result ↔ HasCostumes (records_in records.now) (instance_at of targets.now) }
-{
-    let count = count(target(of, targets), records);
-    count > 0 && count < 4_294_967_296
 }
 
 // The present costume of an instance, from 0.

@@ -16,8 +16,6 @@ mod picking;
 mod sizes;
 
 pub use applying::apply;
-pub use backdrops::has_backdrops;
-pub use dress::has_costumes;
 
 #[cfg(test)]
 mod tests;

@@ -1,10 +1,13 @@
 //! What no clause says: blocks on worked rows, of a stage and two sprites.
 
-ghost use Rattle.std.specs.Prelude.{◌≡◌, ◌==◌, count_by, nat_le};
+ghost use Rattle.std.specs.Prelude.{◌≡◌, ◌==◌, count_by, nat_le, true};
 ghost use Rattle.std.specs.List.{list_all};
+ghost use Rattle.script_machine.specs.Stores.{instance_at};
+ghost use Rattle.target_records.specs.Records.{records_in};
+ghost use Rattle.looks_blocks.specs.Costumes.{HasCostumes};
 ghost use Rattle.looks_blocks.specs.Live.{HasOneEach};
 
-use crate::{apply, has_backdrops, has_costumes};
+use crate::apply;
 use devices::Devices;
 use opcode_table::Opcode;
 use project_json::{Text, read as read_json};
@@ -119,6 +122,20 @@ fn check_numbers(rt: &impl Abort, targets: &Targets)
     assert!(rt; are_counted_once(targets.instances()));
 }
 
+// Whether the target of a live instance has a costume, and fewer than 2^32.
+fn has_costumes(of: InstanceId, records: &Records, targets: &Targets) -> bool
+    ensures { result ≡ true → HasCostumes (records_in records.now) (instance_at of targets.now) }
+{
+    let Some(instance) = targets.get(of) else {
+        return false;
+    };
+    if instance.of.0 >= records.targets() {
+        return false;
+    }
+    let count = records.target(instance.of).costumes.len();
+    count > 0 && count < 4_294_967_296
+}
+
 // Executes a block of a live instance in the thread 7, with these two inputs and this field and its text.
 fn executed<R: Rng + Drop>(
     rt: &(impl Abort + AllocGlobal),
@@ -144,8 +161,9 @@ fn executed<R: Rng + Drop>(
     );
     check_numbers(rt, &world.targets);
     assert!(rt; world.targets.is_live(here));
+    let stage = InstanceId(u64::from(world.records.stage().0));
     assert!(rt; has_costumes(here, &world.records, &world.targets));
-    assert!(rt; has_backdrops(&world.records, &world.targets));
+    assert!(rt; has_costumes(stage, &world.records, &world.targets));
     let row = apply(
         rt.alloc(),
         op,

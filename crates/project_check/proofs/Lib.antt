@@ -1,4 +1,5 @@
 pub mod Room
+pub mod Dressed
 pub mod Resolved
 pub mod FirstTooMany
 pub mod Linking

@@ -28,8 +28,10 @@ use Rattle.block_table.specs.declared.table.BlockTable.{BlockTable}
 use Rattle.project_check.specs.declared.measuring.Measured.{Measured}
 use Rattle.project_check.specs.declared.project.Project.{Project}
 use Rattle.project_check.specs.File.{file_in}
+use Rattle.project_check.specs.Kept.{IsDressed}
 use Rattle.project_check.specs.Measured.{IsMeasured}
 use Rattle.project_check.specs.Loaded.{IsLinked, Loads, of_json, of_fault}
+use Rattle.project_check.proofs.Dressed.{file-dressed}
 use Rattle.project_check.proofs.Room.{as_many, few_targets, few_blocks, room, sum_by-map}
 
 -- A refusal of blocks
@@ -109,6 +111,9 @@ module _ (bytes : List ℕ) (t : Tree) (f : File) (text : IsText max_depth bytes
 
     pub as_many_tables : length (records_in m.records).targets ≡ length m.tables.items
     as_many_tables = ap (λ rs. length rs.targets) is.2 ∙ sym (as_many t f tells) ∙ ap length (sym is.3) ∙ length-map m.tables.items (λ x. x.blocks)
+
+    pub are_dressed : size_of t < 2 ^ 32 → All IsDressed (records_in m.records).targets
+    are_dressed small = subst (λ (rs : Records). All IsDressed rs.targets) (sym is.2) (file-dressed t f tells small)
 
     pub few_tables : size_of t < 2 ^ 32 → length m.tables.items < 2 ^ 32
     few_tables small = omega (arith, few_targets t f tells, as_many t f tells, ap length is.3, length-map m.tables.items (λ x. x.blocks))

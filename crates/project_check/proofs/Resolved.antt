@@ -20,8 +20,9 @@ use Rattle.project_check.specs.Loaded.{checked_by, Resolves}
 use Rattle.project_check.specs.Counts.{block_count}
 use Rattle.project_check.specs.Heads.{head_numbers}
 use Rattle.cached_blocks.specs.declared.block.CachedBlock.{CachedBlock}
-use Rattle.project_check.specs.Kept.{CachesAll, IsProjectOf}
+use Rattle.project_check.specs.Kept.{CachesAll, IsDressed, IsProjectOf}
 use Rattle.project_check.proofs.Room.{sum_by-map}
+use Rattle.project_check.proofs.Dressed.{targets-dressed}
 
 -- the flags, as they are lent
 
@@ -111,10 +112,11 @@ targets-each checked t (bs ∷ more) records (suc i) blocks refs h k = targets-e
 
 -- what a project keeps, from what was tested and resolved
 pub keeps : (old new : Records) (tables : List (List Block)) (links : List Kept) (names : List (List (List Resolved))) (cached : List (List CachedBlock)) (heads : List (List ℕ)) (total : ℕ)
-    → length old.targets ≡ length tables → length tables < 2 ^ 32 → All (Passes tables) tests → AllZip IsKept tables links → Resolves links tables old new names → CachesAll tables names cached
+    → length old.targets ≡ length tables → All IsDressed old.targets → length tables < 2 ^ 32 → All (Passes tables) tests → AllZip IsKept tables links → Resolves links tables old new names → CachesAll tables names cached
     → heads ≡ map head_numbers tables → total ≡ block_count tables → IsProjectOf new tables links names cached heads total
-keeps old new tables links names cached heads total same few passes kept res caches numbers count = record {
+keeps old new tables links names cached heads total same dressed few passes kept res caches numbers count = record {
   targets = sym (ap (λ f. length f.records.targets) res.is) ∙ targets-targets res.checked 0 tables old ∙ same;
+  dressed = subst (λ f. All IsDressed f.records.targets) res.is (targets-dressed res.checked 0 tables old dressed);
   few = few;
   tests = passes;
   links = sym (zip_length IsKept tables links kept);

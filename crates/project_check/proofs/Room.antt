@@ -1,5 +1,5 @@
 -- What a file tells has no more parts than its document.
-use Rattle.std.proofs.Common.{◌∙◌, ◌≡◌, ℕ, zero, suc, ◌+◌, ◌≤◌, Bool, true, false, cond, List, [], ◌∷◌, length, map, sum_by, Result, Ok, Err, Option, None, Some, codes, refl, ap, subst, arith}
+use Rattle.std.proofs.Common.{◌∙◌, ◌≡◌, ℕ, zero, suc, ◌+◌, ◌<◌, ◌≤◌, Bool, true, false, cond, List, [], ◌∷◌, length, map, sum_by, Result, Ok, Err, Option, None, Some, codes, refl, ap, subst, arith}
 use Rattle.std.specs.Prelude.{slice_get, bytes_eq}
 use Rattle.std.specs.Fmt.{decimal}
 use Rattle.std.proofs.lemmas.List.{length-map}
@@ -13,7 +13,7 @@ use Rattle.shapes.specs.Shapes.{Reader, ◌>>=◌}
 use Rattle.script_machine.specs.declared.records.TargetRecord.{TargetRecord}
 use Rattle.scratch_values.specs.Casts.{zero_number}
 use Rattle.project_file.specs.Values.{num}
-use Rattle.project_file.specs.Targets.{variable_of, list_of, costumes_of, hundred, look_of, style_of, target_members, target_of, monitor_of}
+use Rattle.project_file.specs.Targets.{variable_of, list_of, costume_of, not_empty, costumes_of, hundred, look_of, style_of, target_members, target_of, monitor_of}
 use Rattle.project_file.specs.declared.blocks.Block.{Block}
 use Rattle.script_machine.specs.declared.instance.Style.TheVariants.{AllAround}
 use Rattle.opcode_table.specs.declared.opcode.Opcode.TheVariants.{DataVariable, DataListContents}
@@ -239,6 +239,52 @@ target-room at t =
     let same = ((members-held at t).at ms e).1 in
     omega (arith, same (codes "variables"), same (codes "lists"), (target_members-room at ms).at r h))
 
+-- Costumes
+
+not_empty-few : (at : List (List ℕ)) (ts : List Tree) → Gives (not_empty at ts) (λ us. (0 < length us) × (length us ≤ items_held ts))
+not_empty-few at [] = record { at = λ us e. cc }
+not_empty-few at (t ∷ ts) = given (t ∷ ts) (omega arith, length-items_held (t ∷ ts))
+
+some_items-few : (at : List (List ℕ)) (t : Tree) → Gives (shape.items at t >>= not_empty at) (λ us. (0 < length us) × (length us ≤ size_of t))
+some_items-few at t =
+    last (shape.items at t) (not_empty at) (λ ts e us h.
+    let some = (not_empty-few at ts).at us h in
+    (some.0, omega (arith, some.1, (items-held at t).at ts e)))
+
+costumes-few : (at : List (List ℕ)) (t : Tree) → Gives (costumes_of at t) (λ names. (0 < length names) × (length names ≤ size_of t))
+costumes-few at t =
+    last (shape.items at t >>= not_empty at) (shape.each costume_of at) (λ us e names h.
+    let some = (some_items-few at t).at us e in
+    let same = (each_from-length costume_of 0 at us).at names h in
+    (omega (arith, some.0, same), omega (arith, some.1, same)))
+
+required_costumes-few : (at : List (List ℕ)) (ms : List (List ℕ × Tree)) → Gives (shape.required costumes_of (codes "costumes") at ms) (λ names. (0 < length names) × (length names ≤ size_named (codes "costumes") ms))
+required_costumes-few at ms =
+    let name = codes "costumes" in
+    last (shape.named name at ms) (costumes_of (name ∷ at)) (λ t e names h.
+    let some = (costumes-few (name ∷ at) t).at names h in
+    (some.0, omega (arith, some.1, ap size_found (is_found (name ∷ at) (value_named name ms) t e))))
+
+target_members-costumes : (at : List (List ℕ)) (ms : List (List ℕ × Tree)) → Gives (target_members at ms) (λ r. (0 < length r.costumes) × (length r.costumes ≤ size_named (codes "costumes") ms))
+target_members-costumes at ms =
+    skip (shape.required shape.truth (codes "isStage") at ms) _ (λ is_stage.
+    skip (shape.required shape.text (codes "name") at ms) _ (λ name.
+    skip (shape.defaulted shape.members [] (codes "variables") at ms >>= shape.each_member variable_of (codes "variables" ∷ at)) _ (λ variables.
+    skip (shape.defaulted shape.members [] (codes "lists") at ms >>= shape.each_member list_of (codes "lists" ∷ at)) _ (λ lists.
+    keep (shape.required costumes_of (codes "costumes") at ms) _ (λ costumes e.
+    skip (shape.defaulted num zero_number (codes "currentCostume") at ms) _ (λ costume.
+    skip (shape.defaulted num zero_number (codes "layerOrder") at ms) _ (λ layer_order.
+    skip (shape.defaulted num hundred (codes "volume") at ms) _ (λ volume.
+    skip (look_of at ms) _ (λ look.
+    skip (shape.defaulted style_of AllAround (codes "rotationStyle") at ms) _ (λ style.
+    given _ ((required_costumes-few at ms).at costumes e)))))))))))
+
+target-costumes : (at : List (List ℕ)) (t : Tree) → Gives (target_of at t) (λ r. (0 < length r.costumes) × (length r.costumes ≤ size_of t))
+target-costumes at t =
+    last (shape.members at t) (target_members at) (λ ms e r h.
+    let some = (target_members-costumes at ms).at r h in
+    (some.0, omega (arith, some.1, three-held (codes "costumes") (codes "variables") (codes "lists") refl refl refl ms, ((members-held at t).at ms e).0)))
+
 -- Blocks
 
 -- the fields and the inputs of a block
@@ -384,6 +430,14 @@ pub few_targets : (t : Tree) (f : File) → file_of t ≡ Ok f → length f.reco
 few_targets t f h =
     let p = (file-parts t).at f h in
     omega (arith, p.small, length-items_held p.items, (each_from-length target_of 0 (codes "targets" ∷ []) p.items).at f.records.targets p.targets)
+
+-- a target has a costume, and no more than the document has members and items
+pub few_costumes : (t : Tree) (f : File) → file_of t ≡ Ok f → (i : ℕ) (r : TargetRecord) → slice_get f.records.targets i ≡ Some r → (0 < length r.costumes) × (length r.costumes ≤ size_of t)
+few_costumes t f h i r at_target =
+    let p = (file-parts t).at f h in
+    let a = (each_from-found target_of 0 (codes "targets" ∷ []) p.items i r).at f.records.targets p.targets at_target in
+    let some = (target-costumes a.place a.item).at r a.read_here in
+    (some.0, omega (arith, some.1, p.small, item-held p.items i a.item a.found))
 
 -- there are no more blocks in all than the document has members and items
 pub few_blocks : (t : Tree) (f : File) → file_of t ≡ Ok f → sum_by length (blocks_in f) ≤ size_of t

@@ -5,6 +5,7 @@ use Rattle.project_file.specs.declared.blocks.Block.{Block}
 use Rattle.project_file.specs.declared.blocks.Resolved.{Resolved}
 use Rattle.project_file.specs.Linked.{AreRanks}
 use Rattle.project_file.specs.Refusals.{tests, Passes}
+use Rattle.script_machine.specs.declared.records.TargetRecord.{TargetRecord}
 use Rattle.script_machine.specs.Program.{Records}
 use Rattle.linked_blocks.specs.Kept.{Kept}
 use Rattle.cached_blocks.specs.declared.block.CachedBlock.{CachedBlock}
@@ -18,9 +19,15 @@ CachesAll tables resolved cached =
     (t : ℕ) (blocks : List Block) (refs : List (List Resolved)) → slice_get tables t ≡ Some blocks → slice_get resolved t ≡ Some refs
     → slice_get cached t ≡ Some (cached_blocks (sheet_with blocks refs))
 
--- Each target has its blocks, with ranks that fall along every link, and what each block names; the blocks pass all tests.
+-- a target has a costume, and fewer than 2^32 of them
+abbrev pub IsDressed : TargetRecord → Type 0
+IsDressed t = (0 < length t.costumes) × (length t.costumes < 2 ^ 32)
+
+-- Each target has costumes, and its blocks, with ranks that fall along every link, and what each block names; the blocks
+-- pass all tests.
 pub record IsProjectOf (records : Records) (tables : List (List Block)) (kept : List Kept) (resolved : List (List (List Resolved))) (cached : List (List CachedBlock)) (numbers : List (List ℕ)) (total : ℕ) : Type 0 where
   pub targets : length records.targets ≡ length tables
+  pub dressed : All IsDressed records.targets
   pub few : length tables < 2 ^ 32
   pub tests : All (Passes tables) tests
   pub links : length kept ≡ length tables

@@ -17,9 +17,9 @@ use scratch_values::VarRef;
 use script_machine::{BlockId, TargetId};
 use target_records::Records;
 
-/// A project. Its links lead to blocks and a rank falls along each, its blocks pass all tests of the loader, and what
-/// the blocks of checked scripts name is resolved. Contracts see its program, and of each target the blocks and what
-/// they name (specs/Loaded.antt).
+/// A project. Each of its targets has costumes, its links lead to blocks and a rank falls along each, its blocks pass all
+/// tests of the loader, and what the blocks of checked scripts name is resolved. Contracts see its program, and of each
+/// target the blocks and what they name (specs/Loaded.antt).
 #[derive(Drop)]
 pub struct Project {
     pub(crate) records: Records,
@@ -58,6 +58,7 @@ fn ref_in(refs: &[Resolved], in_input: bool, part: &str) -> Option<VarRef>
 
 impl Project {
     ghost use Rattle.std.specs.Prelude.{◌≡◌, ◌<◌, true, false, length, slice_get, slice_index, option_map, find, Some, IfSome};
+    ghost use Rattle.std.specs.List.{All};
     ghost use Rattle.target_records.specs.Records.{records_in};
     ghost use Rattle.project_file.specs.Linked.{IsClosed, AreRanks};
     ghost use Rattle.project_file.specs.Resolving as told;
@@ -66,13 +67,15 @@ impl Project {
     ghost use Rattle.script_machine.specs.Program.{definition_of, procedure};
     ghost use Rattle.project_check.specs.Counts.{block_count};
     ghost use Rattle.project_check.specs.Heads.{head_numbers};
+    ghost use Rattle.project_check.specs.Kept.{IsDressed};
     ghost use Rattle.project_check.specs.Procedures.{callee_at, callee_in, defines_at, procedure_in};
     ghost use Rattle.project_check.specs.Loaded.{tables_of, program_of, blocks_at, names_at, ranks_at, sheet_at};
 
-    /// The records of its targets and monitors.
+    /// The records of its targets and monitors. Each target has a costume, and fewer than 2^32 of them.
     pub fn records(&self) -> &Records
         ensures records { records_in result.now ≡ (program_of self.now).records }
         ensures targets { length (records_in result.now).targets ≡ length (tables_of self.now) }
+        ensures dressed { All IsDressed (records_in result.now).targets }
     {
         &self.records
     }

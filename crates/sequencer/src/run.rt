@@ -7,7 +7,6 @@ ghost use Rattle.script_machine.specs.Line as lines;
 ghost use Rattle.script_machine.specs.Outcome.{Goes, StopIs};
 ghost use Rattle.script_machine.specs.Words.{seen_words};
 ghost use Rattle.project_check.specs.Loaded.{program_of};
-ghost use Rattle.executions.specs.Ready.{AreDressed};
 ghost use Rattle.sequencer.specs.Runs.{world_of, IsRunOf};
 ghost use Rattle.input_lines.specs.Frames.{is_frame};
 
@@ -30,9 +29,8 @@ pub struct Run<R> {
 
 impl<R: Rng + Drop> Run<R> {
     /// The run with which a project begins: its originals in executable order, their variables and lists, no threads; the
-    /// clock stands at 0. Each target has a costume, as those of a loaded project have. The only error is want of memory.
+    /// clock stands at 0. The only error is want of memory.
     pub fn open(alloc: Global, project: &Project, words: Counted<R>) -> Result<Run<R>, AllocError>
-        requires dressed { AreDressed project.now }
         ensures world { IfOk result (λ run. world_of R.stream project.now run ≡ first_world (program_of project.now) (seen_words R.stream words)) }
         ensures fits { IfOk result (λ run. IsRunOf project.now run) }
     {

@@ -31,6 +31,7 @@ invariant_of-result c =
     (subst (λ ts. Resolves c.deref-3.result.now (blocks_in ts) (records_in c.args.records) (records_in c.names.new.records) c.in_ok-names.names) c.deref-2.ensures.value c.in_ok-names.ensures) in record {
       kept = keeps (records_in c.args.records) (records_in c.names.new.records) (blocks_in c.args.tables.items) c.in-Ok.links.items c.in_ok-names.names c.in_ok-cached.cached.items c.in_ok-heads.heads.items c.count-blocks.result
           (c.requires.targets ∙ sym (length-map c.args.tables.items (λ b. b.blocks)))
+          c.requires.dressed
           (omega (arith, c.requires.few, length-map c.args.tables.items (λ b. b.blocks)))
           (subst (λ ts. All (Passes (blocks_in ts)) tests) c.deref.ensures.value c.in-Ok.ensures.passes)
           kept

@@ -1,11 +1,14 @@
 use Rattle.std.proofs.Common.{arith}
 use Rattle.project_json.specs.View.{tree}
 use Rattle.project_check.specs.File.{file_in}
-use Rattle.project_check.proofs.Linking.{as_many_tables, few_tables, few_in_all, has_room, unmeasured, linked_loads}
+use Rattle.project_check.proofs.Linking.{as_many_tables, are_dressed, few_tables, few_in_all, has_room, unmeasured, linked_loads}
 use Rattle.project_check.proofs.loading.load.Goals as goal
 
 pub linked-requires-clause-targets : goal.linked-requires-clause-targets
 linked-requires-clause-targets c = as_many_tables c.args.bytes.now (tree c.in-Ok.document) (file_in c.in-Ok-read_file.file) c.in-Ok.ensures.found c.in-Ok-read_file.ensures c.in-Ok-measure.measured c.in-Ok-measure.ensures
+
+pub linked-requires-clause-dressed : goal.linked-requires-clause-dressed
+linked-requires-clause-dressed c = are_dressed c.args.bytes.now (tree c.in-Ok.document) (file_in c.in-Ok-read_file.file) c.in-Ok.ensures.found c.in-Ok-read_file.ensures c.in-Ok-measure.measured c.in-Ok-measure.ensures (omega (arith, c.in-Ok.ensures.small, c.requires))
 
 pub linked-requires-clause-few : goal.linked-requires-clause-few
 linked-requires-clause-few c = few_tables c.args.bytes.now (tree c.in-Ok.document) (file_in c.in-Ok-read_file.file) c.in-Ok.ensures.found c.in-Ok-read_file.ensures c.in-Ok-measure.measured c.in-Ok-measure.ensures (omega (arith, c.in-Ok.ensures.small, c.requires))
