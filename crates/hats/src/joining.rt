@@ -144,6 +144,7 @@ pub(crate) fn start_hat(
     ensures rising { numbers.old.next ≤ numbers.new.next }
     ensures few { numbers.new.next < 2 ^ 62 }
 {
+    threads.prepare_search();
     if is_ignored(threads, hat) {
         Ok(())
     } else {

@@ -7,3 +7,4 @@ pub mod Counting
 pub mod Stops
 pub mod Restarting
 pub mod Stopping
+pub mod Indexing

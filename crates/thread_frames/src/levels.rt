@@ -30,6 +30,7 @@ impl Model for Levels {
 
 impl Levels {
     /// No levels. It takes no memory.
+    #[inline]
     pub fn new(alloc: Global) -> Levels
         ensures { result ≡ [] }
     {
@@ -68,6 +69,7 @@ impl Levels {
     }
 
     /// Opens a level. The only error is want of memory, and then nothing changes.
+    #[inline]
     pub fn push(&mut self, block: Option<BlockId>, warp: bool) -> Result<(), AllocError>
         ensures ok { OnOk result (self.new ≡ new_level block warp ∷ self.old) }
         ensures err { OnErr result (self.new ≡ self.old) }
@@ -77,6 +79,7 @@ impl Levels {
     }
 
     /// Gives up the top level.
+    #[inline]
     pub fn pop(&mut self)
         ensures { self.new ≡ without_top self.old }
     {
@@ -110,6 +113,7 @@ impl Levels {
     }
 
     /// Gives up all levels.
+    #[inline]
     pub fn clear(&mut self)
         ensures { self.new ≡ [] }
     {
@@ -194,6 +198,7 @@ impl Levels {
     }
 
     /// The parameters of the nearest level, from the top, that has some; None exactly where no level has.
+    #[inline]
     pub fn params(&self) -> Option<&Params>
         ensures { option_map (λ p. p.now) result ≡ near_params self.now }
     {

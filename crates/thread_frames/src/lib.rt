@@ -1,6 +1,7 @@
 //! The threads of a run as plain data: which there are, how each stands, and the levels that each has open.
 #![tactic(auto)]
 
+mod hat_index;
 mod level;
 mod levels;
 mod stops;

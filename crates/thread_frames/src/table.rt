@@ -1,11 +1,12 @@
 //! The threads in their places.
 
-ghost use Rattle.std.specs.Prelude.{◌≡◌, ◌==◌, ◌&&◌, ◌<◌, ◌≤◌, ◌∷◌, ◌++◌, [], length, slice_get, slice_set, position, find, sum_by, Some, None, is_some, OnOk, OnErr};
+ghost use Rattle.std.specs.Prelude.{◌≡◌, ◌==◌, ◌&&◌, ◌<◌, ◌≤◌, ◌∷◌, ◌++◌, [], length, slice_get, slice_set, position, find, sum_by, not, Some, None, is_some, IsTrue, ◌↔◌, OnOk, OnErr};
 ghost use Rattle.std.specs.Borrow.{sem};
 ghost use Rattle.std.specs.List.{list_any};
 ghost use Rattle.std.specs.Option.{option_map, option_copied};
 ghost use Rattle.script_machine.specs.Outcome.{most_levels};
 ghost use Rattle.script_machine.specs.Places.{Places, at_place, put};
+ghost use Rattle.script_machine.specs.Threads.{is_done};
 ghost use Rattle.thread_frames.specs.Lending.{LendsThread};
 ghost use Rattle.thread_frames.specs.Threads.{no_threads, without_detached, without_done, is_of, is_alive_of};
 
@@ -100,6 +101,7 @@ impl Table {
     }
 
     // Appends a thread. The only error is want of memory, and then nothing changes.
+    #[inline]
     pub(crate) fn append(&mut self, thread: Thread) -> Result<(), AllocError>
         ensures ok { OnOk result (self.new ≡ record { list = self.old.list ++ thread ∷ []; detached = self.old.detached }) }
         ensures err { OnErr result (self.new ≡ self.old) }
@@ -109,6 +111,7 @@ impl Table {
     }
 
     // Puts a thread into a slot; the one that stood there is the detached one now.
+    #[inline]
     pub(crate) fn detach(&mut self, slot: usize, thread: Thread)
         requires { slot < length self.old.list }
         ensures detached { self.new.detached ≡ slice_get self.old.list slot }
@@ -119,11 +122,26 @@ impl Table {
     }
 
     // Takes the detached thread out.
+    #[inline]
     pub(crate) fn take_detached(&mut self) -> Option<Thread>
         ensures thread { result ≡ self.old.detached }
         ensures new { self.new ≡ without_detached self.old }
     {
         self.detached.take()
+    }
+
+    // Whether a thread of the list is done.
+    fn is_any_done(&self) -> bool
+        ensures { result ≡ list_any (λ t. is_done t.status) self.now.list }
+    {
+        self.list.iter().any(|thread| thread.is_done())
+    }
+
+    // Whether no thread is detached, and none of the list is done.
+    pub(crate) fn is_clean(&self) -> bool
+        ensures { IsTrue result ↔ (without_done self.now ≡ self.now) }
+    {
+        !self.is_any_detached() && !self.is_any_done()
     }
 
     // Takes the threads that are done out of the list, and the detached one away.

@@ -251,6 +251,50 @@ fn threads_end(rt: HostRuntime) {
     assert_eq!(rt; threads.levels(), 0);
 }
 
+// The first slots of the cat's flag hat, of its key hat, of the dog's flag hat and of its key hat.
+fn slots(threads: &Threads) -> [Option<u64>; 4] {
+    [
+        threads.slot_of_hat(CAT, FLAG),
+        threads.slot_of_hat(CAT, KEY),
+        threads.slot_of_hat(DOG, FLAG),
+        threads.slot_of_hat(DOG, KEY),
+    ]
+}
+
+// The first thread of a hat is found, whether its slot is kept or looked for.
+#[test]
+fn the_first_thread_of_a_hat_is_found(rt: HostRuntime) {
+    let mut threads = two(&rt);
+    threads
+        .append(Serial(12), CAT, SPRITE, FLAG, FIRST)
+        .expect(&rt, "room");
+    assert_eq!(rt; slots(&threads), [Some(0), None, None, Some(1)]);
+    threads
+        .replace(0, Serial(13), SPRITE, FIRST, true)
+        .expect(&rt, "room");
+    assert_eq!(rt; slots(&threads), [Some(0), None, None, Some(1)]);
+    threads.finish(Which::Slot(0));
+    assert_eq!(rt; slots(&threads), [Some(0), None, None, Some(1)]);
+    assert!(rt; threads.is_any_alive(CAT, FLAG));
+    assert!(rt; !threads.is_any_alive(CAT, KEY));
+    threads.remove_done();
+    assert_eq!(rt; slots(&threads), [Some(1), None, None, Some(0)]);
+    threads
+        .append(Serial(14), DOG, SPRITE, FLAG, FIRST)
+        .expect(&rt, "room");
+    assert_eq!(rt; slots(&threads), [Some(1), None, Some(2), Some(0)]);
+    for _ in 0..20 {
+        threads.prepare_search();
+    }
+    assert_eq!(rt; slots(&threads), [Some(1), None, Some(2), Some(0)]);
+    threads
+        .append(Serial(15), CAT, SPRITE, KEY, FIRST)
+        .expect(&rt, "room");
+    assert_eq!(rt; slots(&threads), [Some(1), Some(3), Some(2), Some(0)]);
+    threads.clear();
+    assert_eq!(rt; slots(&threads), [None, None, None, None]);
+}
+
 #[test]
 fn the_threads_of_an_instance_end_but_for_one(rt: HostRuntime) {
     let mut threads = two(&rt);

@@ -141,6 +141,7 @@ impl Thread {
     }
 
     // Makes it done, which gives up its levels.
+    #[inline]
     pub(crate) fn finish(&mut self)
         ensures { self.new ≡ finished self.old }
     {

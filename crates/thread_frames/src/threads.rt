@@ -14,6 +14,7 @@ ghost use Rattle.thread_frames.specs.Restarting.{restarted};
 ghost use Rattle.thread_frames.specs.Stopping.{stopped, is_some_stopped};
 ghost use Rattle.thread_frames.specs.Stops.{PushStopIs};
 
+use crate::hat_index::HatIndex;
 use crate::level::Level;
 use crate::levels::Levels;
 use crate::stops::PushStop;
@@ -37,18 +38,19 @@ pub struct Threads {
     alloc: Global,
     table: Table,
     open_levels: usize,
+    index: HatIndex,
 }
 
 impl Model for Threads {
     ghost use Rattle.script_machine.specs.Places.{Places};
     ghost use Rattle.thread_frames.specs.Threads.{Thread as Seen};
-    ghost use Rattle.thread_frames.specs.Counting.{IsCount};
+    ghost use Rattle.thread_frames.specs.Indexing.{IsKept};
 
     ghost Value = { Places Seen };
 
     ghost view = { λ t. t.table };
 
-    ghost invariant = { λ t. IsCount t.open_levels t.table };
+    ghost invariant = { λ t. IsKept t.open_levels t.index t.table };
 }
 
 impl Threads {
@@ -60,6 +62,7 @@ impl Threads {
             alloc,
             table: Table::new(alloc),
             open_levels: 0,
+            index: HatIndex::new(alloc),
         })
     }
 
@@ -112,6 +115,7 @@ impl Threads {
     }
 
     /// How many levels a thread has.
+    #[inline]
     pub fn depth(&self, which: Which) -> u32
         ensures { result ≡ length (levels_of (at_place which self.now)) }
     {
@@ -122,6 +126,7 @@ impl Threads {
     }
 
     /// The parameters of the nearest level of a thread, from the top, that has some; None exactly where no level has.
+    #[inline]
     pub fn params(&self, which: Which) -> Option<&Params>
         ensures { option_map (λ p. p.now) result ≡ near_params (levels_of (at_place which self.now)) }
     {
@@ -142,14 +147,34 @@ impl Threads {
     pub fn slot_of_hat(&self, of: InstanceId, hat: BlockId) -> Option<u64>
         ensures { result ≡ position (is_of of hat) self.now.list }
     {
-        self.table.slot_of_hat(of, hat).map(|slot| slot as u64)
+        let slot = if self.index.is_fresh() {
+            self.index.slot(of, hat)
+        } else {
+            self.table.slot_of_hat(of, hat)
+        };
+        slot.map(|slot| slot as u64)
+    }
+
+    /// A hat is searched for next, by `slot_of_hat` or `is_any_alive`. A list that is searched often is looked through once,
+    /// and a search of it takes no longer with more threads from then on, until threads leave the list.
+    #[inline]
+    pub fn prepare_search(&mut self)
+        ensures { self.new ≡ self.old }
+    {
+        self.index.prepare_search(self.table.list());
     }
 
     /// Whether a listed thread of the instance and the hat is not done.
     pub fn is_any_alive(&self, of: InstanceId, hat: BlockId) -> bool
         ensures { result ≡ list_any (is_alive_of of hat) self.now.list }
     {
-        self.table.is_any_alive(of, hat)
+        let Some(slot) = self.slot_of_hat(of, hat) else {
+            return false;
+        };
+        match self.thread(Which::Slot(slot)) {
+            Some(first) if !first.is_done() => true,
+            _ => self.table.is_any_alive(of, hat),
+        }
     }
 
     /// How the first listed thread with the number stands; None exactly where none is listed.
@@ -204,11 +229,13 @@ impl Threads {
             Ok(thread) => thread,
             Err(_) => return Err(PushStop::NoMemory),
         };
+        let slot = self.table.list().len();
         match self.table.append(thread) {
             Ok(()) => {}
             Err(_) => return Err(PushStop::NoMemory),
         }
         self.open_levels += 1;
+        self.index.append(of, hat, slot);
         Ok(())
     }
 
@@ -293,6 +320,7 @@ impl Threads {
     }
 
     /// Opens a level. Full exactly where 65,536 levels are open. After an error nothing is changed.
+    #[inline]
     pub fn push(&mut self, which: Which, block: Option<BlockId>, warp: bool) -> Result<(), PushStop>
         ensures ok { OnOk result (with_room (open_levels frames self.old) (on_place (on_levels (λ ls. new_level block warp ∷ ls)) which self.old) ≡ Goes self.new) }
         ensures stop { PushStopIs result (with_room (open_levels frames self.old) self.old) }
@@ -313,6 +341,7 @@ impl Threads {
     }
 
     /// Gives up the top level of a thread; true where a level is left.
+    #[inline]
     pub fn pop(&mut self, which: Which) -> bool
         ensures popped { self.new ≡ on_place (on_levels without_top) which self.old }
         ensures left { result ≡ nat_lt 1 (length (levels_of (at_place which self.old))) }
@@ -346,6 +375,7 @@ impl Threads {
     }
 
     /// Takes the levels of a thread away, to be put back by `put_levels`. It takes no memory.
+    #[inline]
     pub fn take_levels(&mut self, which: Which) -> Levels
         ensures levels { result ≡ levels_of (at_place which self.old) }
         ensures left { self.new ≡ on_place (on_levels (λ ls. [])) which self.old }
@@ -360,6 +390,7 @@ impl Threads {
     }
 
     /// Puts levels in place of those of a thread. With all that are open they are no more than 65,536.
+    #[inline]
     pub fn put_levels(&mut self, which: Which, levels: Levels)
         requires { open_levels frames self.old + length levels ≤ most_levels }
         ensures { self.new ≡ on_place (on_levels (λ ls. levels)) which self.old }
@@ -373,6 +404,7 @@ impl Threads {
     }
 
     /// The top level of a thread goes to the next block: it loses its loop mark, its context and its parameters.
+    #[inline]
     pub fn go_next(&mut self, which: Which, next: Option<BlockId>)
         ensures { self.new ≡ on_place (on_levels (on_top (at_next next))) which self.old }
     {
@@ -383,6 +415,7 @@ impl Threads {
     }
 
     /// Sets the loop mark of the top level of a thread.
+    #[inline]
     pub fn set_loop(&mut self, which: Which, is_loop: bool)
         ensures { self.new ≡ on_place (on_levels (on_top (with_loop is_loop))) which self.old }
     {
@@ -393,6 +426,7 @@ impl Threads {
     }
 
     /// Takes what the block of the top level of a thread keeps, and leaves it Fresh.
+    #[inline]
     pub fn take_context(&mut self, which: Which) -> Context
         ensures context { result ≡ top_context (levels_of (at_place which self.old)) }
         ensures left { self.new ≡ on_place (on_levels (on_top (with_context Fresh))) which self.old }
@@ -404,6 +438,7 @@ impl Threads {
     }
 
     /// Sets what the block of the top level of a thread keeps.
+    #[inline]
     pub fn set_context(&mut self, which: Which, context: Context)
         ensures { self.new ≡ on_place (on_levels (on_top (with_context context))) which self.old }
     {
@@ -414,6 +449,7 @@ impl Threads {
     }
 
     /// Sets the parameters of the top level of a thread.
+    #[inline]
     pub fn set_params(&mut self, which: Which, params: Boxed<Params>)
         ensures { self.new ≡ on_place (on_levels (on_top (with_params params))) which self.old }
     {
@@ -424,6 +460,7 @@ impl Threads {
     }
 
     /// Sets how a thread stands. Where it is done, its levels are given up by `finish`.
+    #[inline]
     pub fn set_status(&mut self, which: Which, status: Status)
         ensures { self.new ≡ on_place (with_status status) which self.old }
     {
@@ -434,6 +471,7 @@ impl Threads {
     }
 
     /// Makes a thread done, which gives up its levels.
+    #[inline]
     pub fn finish(&mut self, which: Which)
         ensures { self.new ≡ on_place finished which self.old }
     {
@@ -464,6 +502,7 @@ impl Threads {
     }
 
     // Whether the thread of a slot is one of the instance and is not spared.
+    #[inline]
     fn is_stopped(&self, slot: u64, of: InstanceId, except: Option<Which>) -> bool
         ensures { result ≡ is_some_stopped except of slot (slice_get self.now.list slot) }
     {
@@ -475,7 +514,17 @@ impl Threads {
     }
 
     /// Drops the detached thread.
+    #[inline]
     pub fn drop_detached(&mut self)
+        ensures { self.new ≡ without_detached self.old }
+    {
+        if self.table.is_any_detached() {
+            self.forget_detached();
+        }
+    }
+
+    // Drops the detached thread, where there is one.
+    fn forget_detached(&mut self)
         ensures { self.new ≡ without_detached self.old }
     {
         let Some(thread) = self.table.take_detached() else {
@@ -488,8 +537,12 @@ impl Threads {
     pub fn remove_done(&mut self)
         ensures { self.new ≡ without_done self.old }
     {
+        if self.table.is_clean() {
+            return;
+        }
         self.table.remove_done();
         self.open_levels = self.table.count_listed();
+        self.index.forget();
     }
 
     /// Takes all threads away.
@@ -498,10 +551,12 @@ impl Threads {
     {
         self.table.clear();
         self.open_levels = 0;
+        self.index.clear();
     }
 }
 
 // Whether the place is that of the slot.
+#[inline]
 fn is_spared(place: Option<Which>, slot: u64) -> bool
     ensures { result ≡ is_spared_by place slot }
 {
