@@ -1,2 +1,4 @@
 mod Plugged
 mod Values
+mod InOrder
+mod Short

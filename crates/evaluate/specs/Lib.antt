@@ -1,2 +1,4 @@
 pub mod Seen
 pub mod Plugged
+pub mod Ways
+pub mod Short

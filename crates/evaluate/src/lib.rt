@@ -4,7 +4,9 @@
 
 mod evaluating;
 mod linked;
+mod operating;
 mod view;
+mod ways;
 
 pub use evaluating::inputs;
 pub use view::View;

@@ -27,7 +27,7 @@ pub struct View<'p, 'a> {
 }
 
 // What reporters read of it.
-#[inline]
+#[inline(always)]
 pub(crate) fn sight<'v>(view: &'v View<'_, '_>) -> Sight<'v>
     ensures { reporters.seen result ≡ seen view.now }
 {

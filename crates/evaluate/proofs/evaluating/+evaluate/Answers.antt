@@ -1,12 +1,12 @@
 use Rattle.std.proofs.Common.{◌≡◌, ℕ, ◌+◌, ◌<◌, ◌≤◌, ◌++◌, [], ◌∷◌, drop, map, sym, ap, ◌∙◌, subst, arith, rules}
 use Rattle.scratch_values.specs.Args.{arguments}
 use Rattle.scratch_values.specs.Held.{pair_of, held}
-use Rattle.script_machine.specs.Outcome.{Goes, then_do}
+use Rattle.script_machine.specs.Outcome.{Goes, StopIs, then_do}
 use Rattle.script_machine.specs.Words.{seen_words, made_of}
 use Rattle.script_machine.specs.Evaluate.{value}
 use Rattle.project_check.specs.Loaded.{ranks_at}
 use Rattle.evaluate.specs.Plugged.{ArePluggedIn}
-use Rattle.evaluate.specs.Seen.{seen, sheet_of, input_values, arguments_by}
+use Rattle.evaluate.specs.Seen.{seen, sheet_of, input_values, arguments_at}
 use Rattle.evaluate.proofs.Plugged.{plugged-at}
 use Rattle.evaluate.proofs.Values.{Stops, before, pairs-push, one-more, stop-then, stop-made, one-stops, all-done, arguments-here}
 use Rattle.evaluate.proofs.evaluating.+evaluate.Goals as goal
@@ -56,13 +56,14 @@ many-returns-clause-ok g t c =
     ∙ ap (λ o. then_do o (made_of (λ ys. arguments ys block.fields))) all
     ∙ ap (λ a. Goes (record { value = a; words = w })) (ap (arguments done) (sym c.as_slice.ensures) ∙ sym c.many.ensures)
 
-pub reporter-returns-clause-stop : goal.reporter-returns-clause-stop
-reporter-returns-clause-stop g t c =
+pub by_arguments-returns-clause-stop : goal.by_arguments-returns-clause-stop
+by_arguments-returns-clause-stop g t c =
     let v = c.args.view.now in
     let start = seen_words g.R.Rng.stream c.args.words.now in
     let block = c.linked-block.result.now in
     let stop = c.in-Err.stop in
     let told = c.an_expression_is_told.ensures (sheet_of v) (ranks_at v.target v.project.now) c.args.id block c.rank-ranks.ensures.ranks c.requires.is c.linked-block.ensures.block in
-    let args = subst (λ o. Stops stop o) (arguments-here v c.args.id block c.linked-block.ensures.block start) c.in-Err.ensures.stop in
+    let here : Stops stop (arguments_at v c.args.id start) = subst (λ r. StopIs r (arguments_at v c.args.id start)) c.in-Err.is c.arguments-outcome.ensures.stop in
+    let args = subst (λ o. Stops stop o) (arguments-here v c.args.id block c.linked-block.ensures.block start) here in
     let inputs = stop-made stop (input_values v block.inputs start) (λ xs. arguments xs block.fields) args in
     (subst (λ e. Stops stop (value (seen v) e start)) (sym told) (stop-then stop _ _ inputs))

@@ -1,5 +1,6 @@
 use Rattle.project_check.specs.Loaded.{ranks_at}
 use Rattle.evaluate.specs.Seen.{sheet_of}
+use Rattle.evaluate.proofs.InOrder.{ordered}
 use Rattle.evaluate.proofs.Plugged.{plugged-all}
 use Rattle.evaluate.proofs.linked.linked.Goals as goal
 
@@ -8,3 +9,6 @@ returns-clause-plugged c =
     let v = c.args.view.now in
     plugged-all v c.args.id c.cached.result.now.inputs
     (c.links_fall.ensures (sheet_of v) (ranks_at v.target v.project.now) c.args.id c.cached.result.now c.rank-ranks.ensures.ranks c.blocks-closed.ensures.closed c.cached.ensures).inputs
+
+pub returns-clause-order : goal.returns-clause-order
+returns-clause-order c = ordered (sheet_of c.args.view.now) c.args.id c.cached.result.now c.cached.ensures
