@@ -74,7 +74,6 @@ module _ {R : Type 0} (p : Project) (w : State R) (kept : IsKept p w) (slot : Op
   begun_kept fits few = record {
     threads = record { all = fits kept.threads.all };
     few = few;
-    dressed = kept.dressed;
     people = kept.people;
     living = started_living p w.targets slot xs (crowd w) (record { threads = ts; next = count; serials = serials }) heads started kept.living;
     free = kept.free;

@@ -313,7 +313,6 @@ module _ {R : Type 0} (stream : R → Stream) (p : Project) (i : ℕ) (w : State
                   (subst (Everyone (Fits (sheets p))) (sym ended) (ended_everyone frames (Fits (sheets p)) None n.here w.threads (finish_fits p) ready.kept.threads.all)));
             };
             few = ready.kept.few;
-            dressed = ready.kept.dressed;
             people = gone_people;
             living = subst (Everyone (IsOfLive shown)) (sym last_is) (gone_living w.targets shown n.here others_live i w.threads ready.kept.living);
             free = subst (HasNoneFrom w.next_instance) (sym variables_are)

@@ -55,7 +55,6 @@ module _ {R : Type 0} (stream : R → Stream) (p : Project) (i original : ℕ) (
   kept_copy = record {
     threads = ready.kept.threads;
     few = ready.kept.few;
-    dressed = ready.kept.dressed;
     people = people_added p w.next_instance w.targets ready.kept.people original here left;
     living = living_live w.targets (w.targets ++ copy ∷ []) w.threads (λ n h. is_live-pushed n w.targets copy h) ready.kept.living;
     free = held_added w.next_instance w.variables (record (store_at original w.variables.stores) { of = w.next_instance }) ready.kept.free refl;
@@ -97,7 +96,6 @@ module _ {R : Type 0} (stream : R → Stream) (p : Project) (i original : ℕ) (
         clone_kept fits few = record {
           threads = record { all = fits kept_mid.threads.all };
           few = few;
-          dressed = kept_mid.dressed;
           people = subst (ArePeopled p mid.next_instance) (sym placed) (people_behind p mid.next_instance mid.targets kept_mid.people w.next_instance original live_then still_here apart);
           living = living_live mid.targets targets ts (λ n h. subst (IsLive n) (sym placed) (is_live-behind w.next_instance original mid.targets live_then kept_mid.people.one_each still_here apart n h))
               (started_living p mid.targets (Some i) (hats_of p mid (CloneStart w.next_instance)) (crowd mid) (record { threads = ts; next = count; serials = serials }) (starts-headed p mid.targets (CloneStart w.next_instance)) started kept_mid.living);

@@ -12,7 +12,7 @@ use Rattle.project_check.specs.Loaded.{program_of}
 use Rattle.targets.specs.Live.{IsLive}
 use Rattle.targets.proofs.Places.{position_is}
 use Rattle.looks_blocks.specs.Costumes.{IsDressed, HasCostumes}
-use Rattle.executions.specs.Ready.{AreDressed, ArePeopled}
+use Rattle.executions.specs.Ready.{ArePeopled}
 
 record_in : {A : Type 0} (P : A → Type 0) (xs : List A) (t : ℕ) (d : A) → All P xs → t < length xs → P (unwrap_or (slice_get xs t) d)
 record_in P [] t d h lt = absurd (omega (arith, lt))
@@ -27,7 +27,7 @@ first_within : (ts : List TargetRecord) (o : Option ℕ) → position (λ t. t.i
 first_within ts None e lt = lt
 first_within ts (Some k) e lt = (position_is (λ (t : TargetRecord). t.is_stage) ts k no_target e).1
 
-module _ (p : Project) (dressed : AreDressed p) (next : ℕ) (is : List Instance) (people : ArePeopled p next is) (n : ℕ) (here : IsLive n is) where
+module _ (p : Project) (dressed : All IsDressed (program_of p).records.targets) (next : ℕ) (is : List Instance) (people : ArePeopled p next is) (n : ℕ) (here : IsLive n is) where
   home : (instance_at n is).of < length (program_of p).records.targets
   home = people.homes n (instance_at n is).of (some_home (live n is) here)
 
@@ -39,6 +39,6 @@ module _ (p : Project) (dressed : AreDressed p) (next : ℕ) (is : List Instance
   pub stage_live : IsLive (stage_number (program_of p).records) is
   stage_live = people.originals (stage_number (program_of p).records) (first_within (program_of p).records.targets (position (λ t. t.is_stage) (program_of p).records.targets) refl (omega (arith, home)))
 
-module _ (p : Project) (dressed : AreDressed p) (next : ℕ) (is : List Instance) (people : ArePeopled p next is) (n : ℕ) (here : IsLive n is) where
+module _ (p : Project) (dressed : All IsDressed (program_of p).records.targets) (next : ℕ) (is : List Instance) (people : ArePeopled p next is) (n : ℕ) (here : IsLive n is) where
   pub has_backdrops : HasCostumes (program_of p).records (instance_at (stage_number (program_of p).records) is)
   has_backdrops = has_costumes p dressed next is people (stage_number (program_of p).records) (stage_live p dressed next is people n here)

@@ -80,14 +80,14 @@ afresh_fits Spoken false Speaks h e = absurd (cc)
 afresh_fits Called false Calls h e = absurd (cc)
 afresh_fits c m k h e = absurd (cc)
 
-fresh_by : (ls : List Level) (k : ℕ) (sheet : Sheet) → IsReadyAt sheet ls → top_block ls ≡ Some k → (kind_is : Kind) → ((o : Block) → slice_get sheet.blocks k ≡ Some o → kind_of o ≡ kind_is) → was_afresh kind_is (top_context ls) ≡ true → top_context ls ≡ Fresh
+pub fresh_by : (ls : List Level) (k : ℕ) (sheet : Sheet) → IsReadyAt sheet ls → top_block ls ≡ Some k → (kind_is : Kind) → ((o : Block) → slice_get sheet.blocks k ≡ Some o → kind_of o ≡ kind_is) → was_afresh kind_is (top_context ls) ≡ true → top_context ls ≡ Fresh
 fresh_by [] k sheet h e kind_is same afresh = refl
 fresh_by (l ∷ ls) k sheet h e kind_is same afresh =
     let (o, at) = held_at sheet.blocks k (subst (IsHeld sheet) e h.fit.0.held) in
     let fits : top_fits l.context l.is_loop (kind_of o) ≡ true = ap (λ x. top_at x l.context l.is_loop) (sym (block_at_is sheet l.block k o e at)) ∙ h.fit.0.fits in
     afresh_fits l.context l.is_loop kind_is (ap (top_fits l.context l.is_loop) (sym (same o at)) ∙ fits) afresh
 
-same_levels : (ls : List Level) → top_context ls ≡ Fresh → on_top (with_context Fresh) ls ≡ ls
+pub same_levels : (ls : List Level) → top_context ls ≡ Fresh → on_top (with_context Fresh) ls ≡ ls
 same_levels [] e = refl
 same_levels (l ∷ ls) e = ap (λ c. record l { context = c } ∷ ls) (sym e)
 
@@ -136,7 +136,7 @@ module _ {R : Type 0} (stream : R → Stream) (p : Project) (i : ℕ) (which : W
   told P h = steps.told stream p i n.id late w ready facts.holds ranked a P h
 
   -- what the inputs of the block are evaluated on
-  abbrev view_here : Params → View
+  abbrev pub view_here : Params → View
   view_here ps = record { records = (program_of p).records; targets = w.targets; variables = w.variables; devices = w.devices; here = n.here; params = ps }
 
   module _ (ps : Option Params) (near : ps ≡ near_params (levels_of (at_place which w.threads))) where
@@ -300,3 +300,7 @@ pub stops_as : {R A : Type 0} (stream : R → Stream) (p : Project) (i k : ℕ) 
     → ((stop : Stop) → StopIs {T = Report} (Err stop) o → Enacts stream p i k late a w (StopIs {T = Report} (Err stop))) → StopIs result o → Enacts stream p i k late a w (StopIs result)
 stops_as stream p i k late a w (Ok r) o f h = λ t s rest e f. tt
 stops_as stream p i k late a w (Err stop) o f h = f stop h
+
+-- what holds of an answer that is Ok
+pub of_ok : {T E : Type 0} (result : Result T E) (P : T → Type 0) (t : T) → result ≡ Ok t → IfOk result P → P t
+of_ok result P t e h = subst (λ o. IfOk o P) e h

@@ -13,7 +13,7 @@ use Rattle.thread_frames.specs.Threads.{Thread, no_threads}
 use Rattle.executions.specs.declared.state.State.{State}
 use Rattle.executions.specs.Seen.{sheets}
 use Rattle.looks_blocks.specs.Live.{HasOneEach}
-use Rattle.executions.specs.Ready.{AllFit, HasSameTargets, AreDressed, ArePeopled, HasNoneFrom, IsOfLive, IsKept}
+use Rattle.executions.specs.Ready.{AllFit, HasSameTargets, ArePeopled, HasNoneFrom, IsOfLive, IsKept}
 use Rattle.executions.proofs.Crew.{live-targets, one_each-cast}
 use Rattle.executions.specs.Resting.{IsResting, IsIdle}
 use Rattle.executions.specs.Rows.{Leaves}
@@ -25,7 +25,7 @@ use Rattle.executions.proofs.Placing.{everyone_at, everyone_put}
 
 module _ {R : Type 0} (p : Project) (s : State R) (kept : IsKept p s) where
   pub kept_threads : (ts : Places Thread) → Everyone (Fits (sheets p)) ts → Everyone (IsOfLive s.targets) ts → IsKept p (record s { threads = ts })
-  kept_threads ts fits living = record { threads = record { all = fits }; few = kept.few; dressed = kept.dressed; people = kept.people; living = living; free = kept.free }
+  kept_threads ts fits living = record { threads = record { all = fits }; few = kept.few; people = kept.people; living = living; free = kept.free }
 
   -- one thread changed, which is of the same instance, and is not done where it was done before
   pub kept_put : (which : Which) (before after : Thread) → at_place which s.threads ≡ Some before → Fits (sheets p) after → after.of ≡ before.of → (is_done after.status ≡ false → is_done before.status ≡ false)
@@ -40,13 +40,12 @@ module _ {R : Type 0} (p : Project) (s : State R) (kept : IsKept p s) where
   kept_here which t found alive = everyone_at (IsOfLive s.targets) which s.threads t kept.living found alive
 
 -- where there is none
-pub none_idle : {R : Type 0} (p : Project) (s : State R) → s.threads ≡ no_threads → s.next_thread < 2 ^ 62 → AreDressed p → ArePeopled p s.next_instance s.targets → HasNoneFrom s.next_instance s.variables → IsIdle p s
-none_idle p s none few dressed people free = record {
+pub none_idle : {R : Type 0} (p : Project) (s : State R) → s.threads ≡ no_threads → s.next_thread < 2 ^ 62 → ArePeopled p s.next_instance s.targets → HasNoneFrom s.next_instance s.variables → IsIdle p s
+none_idle p s none few people free = record {
   resting = record {
     kept = record {
       threads = record { all = subst (Everyone (Fits (sheets p))) (sym none) (record { listed = All-nil (Fits (sheets p)); detached = tt }) };
       few = few;
-      dressed = dressed;
       people = people;
       living = subst (Everyone (IsOfLive s.targets)) (sym none) (record { listed = All-nil (IsOfLive s.targets); detached = tt });
       free = free;
@@ -63,7 +62,6 @@ module _ {R : Type 0} (p : Project) (s t : State R) where
   kept_leaves kept left = record {
     threads = subst (AllFit p) (sym left.threads) kept.threads;
     few = omega (arith, kept.few, left.next_thread);
-    dressed = kept.dressed;
     people = subst (λ n. ArePeopled p n t.targets) (sym left.next_instance) (people_same p s.next_instance s.targets kept.people t.targets left.targets (left.one_each kept.people.one_each));
     living = subst (Everyone (IsOfLive t.targets)) (sym left.threads) (living_live s.targets t.targets s.threads (live-targets s.targets t.targets left.targets) kept.living);
     free = subst (λ n. HasNoneFrom n t.variables) (sym left.next_instance) (λ n le. left.free n (kept.free n le));

@@ -1,4 +1,5 @@
 pub mod Placing
+pub mod Apart
 pub mod Lent
 pub mod Worlds
 pub mod Stops
@@ -7,6 +8,9 @@ pub mod Counted
 pub mod Taking
 pub mod Steps
 pub mod Enacting
+pub mod Plainly
+pub mod Runs
+pub mod Rowing
 pub mod Each
 pub mod Living
 pub mod Crew

@@ -71,7 +71,7 @@ list_listed (x ∷ xs) zero t u at e f =
     λ j. record { serial = (e ∙ ap (λ y. y.serial) (sym same)) j; status = (f ∙ ap (λ y. y.status) (sym same)) j } ∷ map (λ y. record { serial = y.serial; status = y.status }) xs
 list_listed (x ∷ xs) (suc i) t u at e f = ap (λ l. record { serial = x.serial; status = x.status } ∷ l) (list_listed xs i t u at e f)
 
-put_listed : (which : Which) (ts : Places Thread) (t u : Thread) → at_place which ts ≡ Some t → u.serial ≡ t.serial → u.status ≡ t.status → listed (put which u ts) ≡ listed ts
+pub put_listed : (which : Which) (ts : Places Thread) (t u : Thread) → at_place which ts ≡ Some t → u.serial ≡ t.serial → u.status ≡ t.status → listed (put which u ts) ≡ listed ts
 put_listed (Slot i) ts t u at e f = list_listed ts.list i t u at e f
 put_listed Detached ts t u at e f = refl
 

@@ -4,3 +4,4 @@ pub mod Moves
 pub mod Rows
 pub mod Nexts
 pub mod Resting
+pub mod Runners

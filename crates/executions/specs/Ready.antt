@@ -1,6 +1,5 @@
 -- What a run keeps between executions.
-use Rattle.std.specs.Prelude.{◌≡◌, ℕ, ◌≤◌, ◌<◌, ◌^◌, Bool, true, false, List, length, Some, None, All}
-use Rattle.looks_blocks.specs.Costumes.{IsDressed}
+use Rattle.std.specs.Prelude.{◌≡◌, ℕ, ◌≤◌, ◌<◌, ◌^◌, Bool, true, false, List, length, Some, None}
 use Rattle.looks_blocks.specs.Live.{HasOneEach}
 use Rattle.script_machine.specs.Stores.{Variables, live}
 use Rattle.script_machine.specs.Threads.{is_done}
@@ -20,10 +19,6 @@ use Rattle.executions.specs.Seen.{sheets}
 -- the same instances are live, each of the same target
 abbrev pub HasSameTargets : (old new : List Instance) → Type 0
 HasSameTargets old new = (n : ℕ) → target_of n new ≡ target_of n old
-
--- every target has costumes
-abbrev pub AreDressed : Project → Type 0
-AreDressed p = All IsDressed (program_of p).records.targets
 
 -- each thread has levels that it can have
 pub record AllFit (p : Project) (ts : Places Thread) : Type 0 where
@@ -49,7 +44,6 @@ IsOfLive is t = is_done t.status ≡ false → IsLive t.of is
 pub record IsKept {R : Type 0} (p : Project) (s : State R) : Type 0 where
   pub threads : AllFit p s.threads
   pub few : s.next_thread < 2 ^ 62
-  pub dressed : AreDressed p
   pub people : ArePeopled p s.next_instance s.targets
   pub living : Everyone (IsOfLive s.targets) s.threads
   pub free : HasNoneFrom s.next_instance s.variables

@@ -11,16 +11,20 @@ ghost use Rattle.script_machine.specs.Starting.{open_levels};
 ghost use Rattle.script_machine.specs.Step.{position, opens_level};
 ghost use Rattle.project_check.specs.Loaded.{program_of, sheet_at};
 ghost use Rattle.thread_frames.specs.Threads.{frames};
+ghost use Rattle.thread_moves.specs.Standing.{is_ended};
 ghost use Rattle.executions.specs.Moves.{IsAtBlock, MovesOn, room_for};
+ghost use Rattle.executions.specs.Runners.{IsApart, IsMoved, given_back, given_unless};
 
 use crate::moving::{call, enter, go_on, stay, stop_this_script};
+use crate::running::Runner;
 use crate::state::State;
 use project_check::Project;
-use script_machine::{BlockId, Context, Control, Report, TargetId, Which};
+use script_machine::{BlockId, Context, Control, Report};
 use script_words::{Rng, Stop};
 use thread_frames::Threads;
 
 // Whether a control is of its own thread alone.
+#[inline]
 pub(crate) fn is_own(control: &Control) -> bool
     ensures { result ≡ laws.is_own control.now }
 {
@@ -40,50 +44,35 @@ pub(crate) fn is_own(control: &Control) -> bool
     }
 }
 
-// Moves a thread as a control says that is of its own thread alone; its block keeps the context.
+// Moves a runner as a control says that is of its own thread alone; its block keeps the context.
 fn act_own(
     project: &Project,
     threads: &mut Threads,
-    which: Which,
-    target: TargetId,
+    runner: &mut Runner,
     id: BlockId,
     control: Control,
     context: Context,
     late: bool,
 ) -> Result<Report, Stop>
-    requires at { IsAtBlock project.now which threads.old target id }
+    requires at { IsAtBlock project.now runner.old.which (given_back runner.old threads.old) runner.old.target id }
+    requires apart { IsApart runner.old threads.old }
     requires own { laws.is_own control ≡ true }
-    requires fits { (b : CachedBlock) → slice_get (cached_blocks (sheet_at target project.now)) id ≡ Some b → control_fits control (kind b.op) context ≡ true }
-    ensures at { IfOk result (MovesOn project.now which target id (λ s rest warp. position (program_of project.now) late warp s rest control context) threads.old threads.new) }
-    ensures room { IfOk result (λ report. opens_level control ≡ true → open_levels frames threads.old < most_levels) }
-    ensures stop { StopIs result (room_for (opens_level control) (open_levels frames threads.old)) }
+    requires fits { (b : CachedBlock) → slice_get (cached_blocks (sheet_at runner.old.target project.now)) id ≡ Some b → control_fits control (kind b.op) context ≡ true }
+    ensures at { IfOk result (λ report. MovesOn project.now runner.old.which runner.old.target id (λ s rest warp. position (program_of project.now) late warp s rest control context) (given_back runner.old threads.old) (given_unless (is_ended report) runner.new threads.new) report) }
+    ensures moved { IfOk result (λ report. IsMoved runner.old runner.new threads.old threads.new report) }
+    ensures room { IfOk result (λ report. opens_level control ≡ true → open_levels frames (given_back runner.old threads.old) < most_levels) }
+    ensures stop { StopIs result (room_for (opens_level control) (open_levels frames (given_back runner.old threads.old))) }
 {
     match control {
-        Control::Next => Ok(go_on(project, threads, which, target, id)),
-        Control::Branch { number, is_loop } => enter(
-            project, threads, which, target, id, number, is_loop, context,
-        ),
-        Control::Yield => Ok(stay(
-            project,
-            threads,
-            which,
-            target,
-            id,
-            context,
-            Report::Yielded,
-        )),
-        Control::YieldTick => Ok(stay(
-            project,
-            threads,
-            which,
-            target,
-            id,
-            context,
-            Report::Ticked,
-        )),
-        Control::Promise => Ok(stay(project, threads, which, target, id, context, Report::Waits)),
-        Control::Call { params, .. } => call(project, threads, which, target, id, params, late),
-        Control::StopThis => Ok(stop_this_script(project, threads, which, target, id)),
+        Control::Next => Ok(go_on(project, threads, runner, id)),
+        Control::Branch { number, is_loop } => {
+            enter(project, threads, runner, id, number, is_loop, context)
+        }
+        Control::Yield => Ok(stay(project, threads, runner, id, context, Report::Yielded)),
+        Control::YieldTick => Ok(stay(project, threads, runner, id, context, Report::Ticked)),
+        Control::Promise => Ok(stay(project, threads, runner, id, context, Report::Waits)),
+        Control::Call { params, .. } => call(project, threads, runner, id, params, late),
+        Control::StopThis => Ok(stop_this_script(project, threads, runner, id)),
         Control::StopOthers => unreachable!(),
         Control::StopAll => unreachable!(),
         Control::DeleteClone => unreachable!(),
@@ -93,26 +82,27 @@ fn act_own(
 }
 
 impl<R: Rng + Drop> State<R> {
-    // Moves the thread at a place as a control says that is of its own thread alone.
+    // Moves a runner as a control says that is of its own thread alone.
     pub(crate) fn act_own(
         &mut self,
         project: &Project,
-        which: Which,
-        target: TargetId,
+        runner: &mut Runner,
         id: BlockId,
         control: Control,
         context: Context,
         late: bool,
     ) -> Result<Report, Stop>
-        requires at { IsAtBlock project.now which self.old.threads target id }
+        requires at { IsAtBlock project.now runner.old.which (given_back runner.old self.old.threads) runner.old.target id }
+        requires apart { IsApart runner.old self.old.threads }
         requires own { laws.is_own control ≡ true }
-        requires fits { (b : CachedBlock) → slice_get (cached_blocks (sheet_at target project.now)) id ≡ Some b → control_fits control (kind b.op) context ≡ true }
-        ensures at { IfOk result (MovesOn project.now which target id (λ s rest warp. position (program_of project.now) late warp s rest control context) self.old.threads self.new.threads) }
-        ensures room { IfOk result (λ report. opens_level control ≡ true → open_levels frames self.old.threads < most_levels) }
+        requires fits { (b : CachedBlock) → slice_get (cached_blocks (sheet_at runner.old.target project.now)) id ≡ Some b → control_fits control (kind b.op) context ≡ true }
+        ensures at { IfOk result (λ report. MovesOn project.now runner.old.which runner.old.target id (λ s rest warp. position (program_of project.now) late warp s rest control context) (given_back runner.old self.old.threads) (given_unless (is_ended report) runner.new self.new.threads) report) }
+        ensures moved { IfOk result (λ report. IsMoved runner.old runner.new self.old.threads self.new.threads report) }
+        ensures room { IfOk result (λ report. opens_level control ≡ true → open_levels frames (given_back runner.old self.old.threads) < most_levels) }
         ensures others { self.new ≡ record self.old { threads = self.new.threads } }
-        ensures stop { StopIs result (room_for (opens_level control) (open_levels frames self.old.threads)) }
+        ensures stop { StopIs result (room_for (opens_level control) (open_levels frames (given_back runner.old self.old.threads))) }
     {
         let threads = &mut self.threads;
-        act_own(project, threads, which, target, id, control, context, late)
+        act_own(project, threads, runner, id, control, context, late)
     }
 }

@@ -4,15 +4,16 @@
 mod acting;
 mod beginning;
 mod cloning;
-mod dressing;
+mod listed;
 mod moving;
 mod opening;
 mod others;
 mod rows;
+mod running;
 mod starting;
 mod state;
 mod stepping;
 mod stopping;
 
-pub use dressing::is_dressed;
+pub use running::Runner;
 pub use state::State;

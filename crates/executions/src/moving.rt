@@ -1,6 +1,6 @@
-//! A thread of a run after a control of its own.
+//! A runner after a control of its own.
 
-ghost use Rattle.std.specs.Prelude.{◌≡◌, ◌≤◌, ◌<◌, ◌+◌, ◌∷◌, ◌&&◌, length, true, false, Some, IfOk, slice_get};
+ghost use Rattle.std.specs.Prelude.{◌≡◌, ◌<◌, ◌∷◌, ◌&&◌, true, false, Some, IfOk, slice_get, not, nat_lt};
 ghost use Rattle.opcode_table.specs.Kinds.{kind};
 ghost use Rattle.cached_blocks.specs.declared.block.CachedBlock.{CachedBlock};
 ghost use Rattle.cached_blocks.specs.Cached.{cached_blocks};
@@ -8,7 +8,6 @@ ghost use Rattle.script_machine.specs.Called.{called};
 ghost use Rattle.script_machine.specs.Keeping.{has_branches, is_calls, may_wait, top_fits, under_fits};
 ghost use Rattle.script_machine.specs.Outcome.{StopIs, with_room, most_levels};
 ghost use Rattle.script_machine.specs.Pending as machine;
-ghost use Rattle.script_machine.specs.Places.{on_place};
 ghost use Rattle.script_machine.specs.Starting.{open_levels};
 ghost use Rattle.script_machine.specs.Step.{entered_some, position};
 ghost use Rattle.script_machine.specs.Tasks as tasks;
@@ -16,19 +15,22 @@ ghost use Rattle.script_machine.specs.declared.threads.Control.TheVariants as co
 ghost use Rattle.project_check.specs.Loaded.{program_of, sheet_at};
 ghost use Rattle.thread_frames.specs.Threads.{frames};
 ghost use Rattle.thread_moves.specs.Standing.{is_ended};
-ghost use Rattle.executions.specs.Moves.{IsAtBlock, MovesOn, with_levels};
+ghost use Rattle.executions.specs.Moves.{IsAtBlock, MovesOn};
+ghost use Rattle.executions.specs.Runners.{IsApart, IsMoved, given_back, given_unless};
 
+use crate::running::Runner;
 use project_check::Project;
 use scratch_values::Params;
-use script_machine::{BlockId, Boxed, Context, Report, Status, TargetId, Which};
+use script_machine::{BlockId, Boxed, Context, Report, Status};
 use script_words::Stop;
-use thread_frames::{Levels, Threads};
+use thread_frames::Threads;
 
 // The most levels that may be open over all threads.
-const MOST_LEVELS: u32 = 65_536;
+const MOST_LEVELS: usize = 65_536;
 
 // How a thread stands after a report of it.
-fn status_after(report: Report) -> Status
+#[inline]
+pub(crate) fn status_after(report: Report) -> Status
     ensures { result ≡ tasks.status_after report }
 {
     match report {
@@ -41,30 +43,30 @@ fn status_after(report: Report) -> Status
     }
 }
 
-// Puts levels back, and sets how the thread stands.
-fn put_back(threads: &mut Threads, which: Which, levels: Levels, report: Report)
-    requires { open_levels frames threads.old + length levels ≤ most_levels }
-    ensures { threads.new ≡ on_place (with_levels levels report) which threads.old }
+// Whether there is room for one more level.
+#[inline]
+fn has_room(threads: &Threads, runner: &Runner) -> bool
+    requires { IsApart runner.now threads.now }
+    ensures { result ≡ nat_lt (open_levels frames (given_back runner.now threads.now)) most_levels }
 {
-    threads.put_levels(which, levels);
-    threads.set_status(which, status_after(report));
+    threads.levels() as usize + runner.levels.depth() < MOST_LEVELS
 }
 
 // Goes on behind the block of the top level.
+#[inline]
 pub(crate) fn go_on(
     project: &Project,
     threads: &mut Threads,
-    which: Which,
-    target: TargetId,
+    runner: &mut Runner,
     id: BlockId,
 ) -> Report
-    requires { IsAtBlock project.now which threads.old target id }
-    ensures { MovesOn project.now which target id (λ s rest warp. machine.settle rest warp) threads.old threads.new result }
+    requires at { IsAtBlock project.now runner.old.which (given_back runner.old threads.old) runner.old.target id }
+    requires apart { IsApart runner.old threads.old }
+    ensures at { MovesOn project.now runner.old.which runner.old.target id (λ s rest warp. machine.settle rest warp) (given_back runner.old threads.old) (given_unless (is_ended result) runner.new threads.new) result }
+    ensures moved { IsMoved runner.old runner.new threads.old threads.new result }
 {
-    let _open = threads.levels();
-    let mut levels = threads.take_levels(which);
-    let report = thread_moves::go_on(project, target, &mut levels, id);
-    put_back(threads, which, levels, report);
+    let report = thread_moves::go_on(project, runner.target, &mut runner.levels, id);
+    threads.set_status(runner.which, status_after(report));
     report
 }
 
@@ -72,21 +74,27 @@ pub(crate) fn go_on(
 pub(crate) fn stay(
     project: &Project,
     threads: &mut Threads,
-    which: Which,
-    target: TargetId,
+    runner: &mut Runner,
     id: BlockId,
     context: Context,
     report: Report,
 ) -> Report
-    requires at { IsAtBlock project.now which threads.old target id }
-    requires fits { (b : CachedBlock) → slice_get (cached_blocks (sheet_at target project.now)) id ≡ Some b → (may_wait (kind b.op) && top_fits context false (kind b.op)) ≡ true }
+    requires at { IsAtBlock project.now runner.old.which (given_back runner.old threads.old) runner.old.target id }
+    requires apart { IsApart runner.old threads.old }
+    requires fits { (b : CachedBlock) → slice_get (cached_blocks (sheet_at runner.old.target project.now)) id ≡ Some b → (may_wait (kind b.op) && top_fits context false (kind b.op)) ≡ true }
     requires report { is_ended report ≡ false }
-    ensures { MovesOn project.now which target id (λ s rest warp. record { items = machine.kept s context ∷ rest; warp = warp; report = report }) threads.old threads.new result }
+    ensures at { MovesOn project.now runner.old.which runner.old.target id (λ s rest warp. record { items = machine.kept s context ∷ rest; warp = warp; report = report }) (given_back runner.old threads.old) (given_unless (is_ended result) runner.new threads.new) result }
+    ensures moved { IsMoved runner.old runner.new threads.old threads.new result }
 {
-    let _open = threads.levels();
-    let mut levels = threads.take_levels(which);
-    let report = thread_moves::stay(project, target, &mut levels, id, context, report);
-    put_back(threads, which, levels, report);
+    let report = thread_moves::stay(
+        project,
+        runner.target,
+        &mut runner.levels,
+        id,
+        context,
+        report,
+    );
+    threads.set_status(runner.which, status_after(report));
     report
 }
 
@@ -94,44 +102,45 @@ pub(crate) fn stay(
 pub(crate) fn stop_this_script(
     project: &Project,
     threads: &mut Threads,
-    which: Which,
-    target: TargetId,
+    runner: &mut Runner,
     id: BlockId,
 ) -> Report
-    requires { IsAtBlock project.now which threads.old target id }
-    ensures { MovesOn project.now which target id (λ s rest warp. machine.unwind rest) threads.old threads.new result }
+    requires at { IsAtBlock project.now runner.old.which (given_back runner.old threads.old) runner.old.target id }
+    requires apart { IsApart runner.old threads.old }
+    ensures at { MovesOn project.now runner.old.which runner.old.target id (λ s rest warp. machine.unwind rest) (given_back runner.old threads.old) (given_unless (is_ended result) runner.new threads.new) result }
+    ensures moved { IsMoved runner.old runner.new threads.old threads.new result }
 {
-    let _open = threads.levels();
-    let mut levels = threads.take_levels(which);
-    let report = thread_moves::stop_this_script(project, target, &mut levels, id);
-    put_back(threads, which, levels, report);
+    let report = thread_moves::stop_this_script(project, runner.target, &mut runner.levels, id);
+    threads.set_status(runner.which, status_after(report));
     report
 }
 
 // Enters a branch of the block of the top level, which keeps the context and the loop mark.
+#[inline]
 pub(crate) fn enter(
     project: &Project,
     threads: &mut Threads,
-    which: Which,
-    target: TargetId,
+    runner: &mut Runner,
     id: BlockId,
     number: u8,
     is_loop: bool,
     context: Context,
 ) -> Result<Report, Stop>
-    requires at { IsAtBlock project.now which threads.old target id }
-    requires fits { (b : CachedBlock) → slice_get (cached_blocks (sheet_at target project.now)) id ≡ Some b → (has_branches (kind b.op) && under_fits context is_loop (kind b.op)) ≡ true }
-    ensures room { IfOk result (λ r. open_levels frames threads.old < most_levels) }
-    ensures at { IfOk result (MovesOn project.now which target id (λ s rest warp. position (program_of project.now) false warp s rest (control.Branch number is_loop) context) threads.old threads.new) }
-    ensures stop { StopIs result (with_room (open_levels frames threads.old) threads.old) }
+    requires at { IsAtBlock project.now runner.old.which (given_back runner.old threads.old) runner.old.target id }
+    requires apart { IsApart runner.old threads.old }
+    requires fits { (b : CachedBlock) → slice_get (cached_blocks (sheet_at runner.old.target project.now)) id ≡ Some b → (has_branches (kind b.op) && under_fits context is_loop (kind b.op)) ≡ true }
+    ensures room { IfOk result (λ r. open_levels frames (given_back runner.old threads.old) < most_levels) }
+    ensures at { IfOk result (λ report. MovesOn project.now runner.old.which runner.old.target id (λ s rest warp. position (program_of project.now) false warp s rest (control.Branch number is_loop) context) (given_back runner.old threads.old) (given_unless (is_ended report) runner.new threads.new) report) }
+    ensures moved { IfOk result (λ report. IsMoved runner.old runner.new threads.old threads.new report) }
+    ensures stop { StopIs result (with_room (open_levels frames (given_back runner.old threads.old)) (given_back runner.old threads.old)) }
 {
-    if threads.levels() >= MOST_LEVELS {
+    if !has_room(threads, runner) {
         return Err(Stop::Stack);
     }
-    let mut levels = threads.take_levels(which);
-    match thread_moves::enter(project, target, &mut levels, id, number, is_loop, context) {
+    let levels = &mut runner.levels;
+    match thread_moves::enter(project, runner.target, levels, id, number, is_loop, context) {
         Ok(report) => {
-            put_back(threads, which, levels, report);
+            threads.set_status(runner.which, status_after(report));
             Ok(report)
         }
         Err(_) => Err(Stop::NoMemory),
@@ -142,25 +151,26 @@ pub(crate) fn enter(
 pub(crate) fn call(
     project: &Project,
     threads: &mut Threads,
-    which: Which,
-    target: TargetId,
+    runner: &mut Runner,
     id: BlockId,
     params: Boxed<Params>,
     late: bool,
 ) -> Result<Report, Stop>
-    requires at { IsAtBlock project.now which threads.old target id }
-    requires calls { (b : CachedBlock) → slice_get (cached_blocks (sheet_at target project.now)) id ≡ Some b → is_calls (kind b.op) ≡ true }
-    ensures room { IfOk result (λ r. open_levels frames threads.old < most_levels) }
-    ensures at { IfOk result (MovesOn project.now which target id (λ s rest warp. entered_some (called (program_of project.now) s) late warp s rest params) threads.old threads.new) }
-    ensures stop { StopIs result (with_room (open_levels frames threads.old) threads.old) }
+    requires at { IsAtBlock project.now runner.old.which (given_back runner.old threads.old) runner.old.target id }
+    requires apart { IsApart runner.old threads.old }
+    requires calls { (b : CachedBlock) → slice_get (cached_blocks (sheet_at runner.old.target project.now)) id ≡ Some b → is_calls (kind b.op) ≡ true }
+    ensures room { IfOk result (λ r. open_levels frames (given_back runner.old threads.old) < most_levels) }
+    ensures at { IfOk result (λ report. MovesOn project.now runner.old.which runner.old.target id (λ s rest warp. entered_some (called (program_of project.now) s) late warp s rest params) (given_back runner.old threads.old) (given_unless (is_ended report) runner.new threads.new) report) }
+    ensures moved { IfOk result (λ report. IsMoved runner.old runner.new threads.old threads.new report) }
+    ensures stop { StopIs result (with_room (open_levels frames (given_back runner.old threads.old)) (given_back runner.old threads.old)) }
 {
-    if threads.levels() >= MOST_LEVELS {
+    if !has_room(threads, runner) {
         return Err(Stop::Stack);
     }
-    let mut levels = threads.take_levels(which);
-    match thread_moves::call(project, target, &mut levels, id, params, late) {
+    let levels = &mut runner.levels;
+    match thread_moves::call(project, runner.target, levels, id, params, late) {
         Ok(report) => {
-            put_back(threads, which, levels, report);
+            threads.set_status(runner.which, status_after(report));
             Ok(report)
         }
         Err(_) => Err(Stop::NoMemory),

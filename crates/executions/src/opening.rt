@@ -4,7 +4,6 @@ ghost use Rattle.std.specs.Prelude.{◌≡◌, IfOk};
 ghost use Rattle.script_machine.specs.First.{first_world};
 ghost use Rattle.script_machine.specs.Words.{seen_words};
 ghost use Rattle.project_check.specs.Loaded.{program_of};
-ghost use Rattle.executions.specs.Ready.{AreDressed};
 ghost use Rattle.executions.specs.Resting.{IsIdle};
 ghost use Rattle.executions.specs.Seen.{seen};
 
@@ -19,10 +18,8 @@ use variables::Variables;
 
 impl<R: Rng + Drop> State<R> {
     /// The state with which a run of a project begins: its originals in executable order, their variables and lists, no
-    /// threads. The first thread will have the number 1. Each target of the project has costumes, fewer than 2^32, as every
-    /// target of a file has. The only error is want of memory.
+    /// threads. The first thread will have the number 1. The only error is want of memory.
     pub fn open(alloc: Global, project: &Project, words: Counted<R>) -> Result<State<R>, AllocError>
-        requires { AreDressed project.now }
         ensures world { IfOk result (λ state. seen R.stream project.now state ≡ first_world (program_of project.now) (seen_words R.stream words)) }
         ensures kept { IfOk result (λ state. IsIdle project.now state) }
     {

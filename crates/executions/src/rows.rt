@@ -1,16 +1,17 @@
 //! The rows of blocks on the parts of a run.
 
-ghost use Rattle.std.specs.Prelude.{◌≡◌, ◌||◌, ℕ, length, true, false, IfOk};
+ghost use Rattle.std.specs.Prelude.{◌≡◌, ◌||◌, ℕ, length, true, false, IfOk, OnOk};
 ghost use Rattle.opcode_table.specs.Kinds.{kind, group};
 ghost use Rattle.opcode_table.specs.declared.grouping.Group.TheVariants as group_of;
 ghost use Rattle.script_machine.specs.declared.threads.Control.TheVariants.{Next};
 ghost use Rattle.script_machine.specs.Keeping.{control_fits};
 ghost use Rattle.script_machine.specs.Laws.{is_own};
+ghost use Rattle.script_machine.specs.declared.threads.Context.{Context as Kept};
 ghost use Rattle.script_machine.specs.declared.threads.Context.TheVariants.{Fresh};
 ghost use Rattle.control_blocks.specs.Afresh.{was_afresh};
 ghost use Rattle.project_check.specs.Loaded.{program_of};
 ghost use Rattle.targets.specs.Live.{IsLive};
-ghost use Rattle.executions.specs.Ready.{AreDressed, ArePeopled};
+ghost use Rattle.executions.specs.Ready.{ArePeopled};
 ghost use Rattle.executions.specs.Rows.{RowGoes, RowStops, Leaves, may_clone};
 
 use crate::state::State;
@@ -29,21 +30,28 @@ fn either(a: bool, b: bool) -> bool
     a || b
 }
 
+// Whether a row requests a redraw.
+#[inline]
+fn redraw_of(answer: (Control, bool)) -> bool
+    ensures { result ≡ answer.1 }
+{
+    answer.1
+}
+
 impl<R: Rng + Drop> State<R> {
-    // The row of a block of data.
-    fn apply_data(
+    // The row of a block of data, which keeps nothing and goes on.
+    #[inline]
+    pub(crate) fn apply_data(
         &mut self,
         project: &Project,
         block: &CachedBlock,
         args: &Args<'_>,
         here: InstanceId,
-        context: Context,
-    ) -> Result<(Control, Context), Stop>
+    ) -> Result<(), Stop>
         requires { group block.now.op ≡ group_of.Data }
-        ensures ok { IfOk result (λ r. (thread : ℕ) → RowGoes R.stream project.now block.now args.entry.now here thread context self.old r.1 self.new r.0) }
-        ensures next { IfOk result (λ r. r ≡ (Next, Fresh)) }
-        ensures kept { IfOk result (λ r. Leaves self.old self.new) }
-        ensures stop { (thread : ℕ) → RowStops R.stream project.now block.now args.entry.now here thread context self.old result }
+        ensures ok { OnOk result ((thread : ℕ) → (context : Kept) → RowGoes R.stream project.now block.now args.entry.now here thread context self.old Fresh self.new Next) }
+        ensures kept { OnOk result (Leaves self.old self.new) }
+        ensures stop { (thread : ℕ) → (context : Kept) → RowStops R.stream project.now block.now args.entry.now here thread context self.old result }
     {
         match data_blocks::apply(
             block.op,
@@ -54,9 +62,9 @@ impl<R: Rng + Drop> State<R> {
             &mut self.variables,
             &mut self.words,
         ) {
-            Ok((control, redraw)) => {
-                self.redraw = either(self.redraw, redraw);
-                Ok((control, Context::Fresh))
+            Ok(answer) => {
+                self.redraw = either(self.redraw, redraw_of(answer));
+                Ok(())
             }
             Err(stop) => Err(stop),
         }
@@ -111,7 +119,6 @@ impl<R: Rng + Drop> State<R> {
         context: Context,
     ) -> Result<(Control, Context), Stop>
         requires group { group block.now.op ≡ group_of.Looks }
-        requires dressed { AreDressed project.now }
         requires people { ArePeopled project.now self.old.next_instance self.old.targets }
         requires live { IsLive here self.old.targets }
         ensures ok { IfOk result (λ r. RowGoes R.stream project.now block.now args.entry.now here thread context self.old r.1 self.new r.0) }
@@ -196,7 +203,6 @@ impl<R: Rng + Drop> State<R> {
         thread: Serial,
         context: Context,
     ) -> Result<(Control, Context), Stop>
-        requires dressed { AreDressed project.now }
         requires people { ArePeopled project.now self.old.next_instance self.old.targets }
         requires live { IsLive here self.old.targets }
         ensures ok { IfOk result (λ r. RowGoes R.stream project.now block.now args.entry.now here thread context self.old r.1 self.new r.0) }
@@ -210,7 +216,10 @@ impl<R: Rng + Drop> State<R> {
         match group(block.op) {
             Group::Motion => self.apply_motion(alloc, project, block, args, here, context),
             Group::Looks => self.apply_looks(alloc, project, block, args, here, thread, context),
-            Group::Data => self.apply_data(project, block, args, here, context),
+            Group::Data => match self.apply_data(project, block, args, here) {
+                Ok(()) => Ok((Control::Next, Context::Fresh)),
+                Err(stop) => Err(stop),
+            },
             Group::Control => {
                 self.apply_control(alloc, project, block, args, here, thread, context)
             }

@@ -16,7 +16,7 @@ ghost use Rattle.executions.specs.Ready.{IsReady, IsAfter};
 ghost use Rattle.executions.specs.Rows.{Acts};
 ghost use Rattle.executions.specs.Seen.{seen};
 
-use crate::moving::{go_on, stay};
+use crate::listed::{go_on, stay};
 use crate::state::State;
 use crate::stepping::Next;
 use hats::start;

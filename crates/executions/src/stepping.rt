@@ -1,24 +1,37 @@
 //! One execution of the running thread.
 
-ghost use Rattle.std.specs.Prelude.{◌≡◌, ◌<◌, length, Some, IfOk};
+ghost use Rattle.std.specs.Prelude.{◌≡◌, ◌<◌, ℕ, length, slice_get, Some, IfOk, true, false};
+ghost use Rattle.opcode_table.specs.Kinds.{kind, group};
+ghost use Rattle.opcode_table.specs.declared.grouping.Group.TheVariants as group_of;
+ghost use Rattle.cached_blocks.specs.declared.block.CachedBlock.{CachedBlock as Cached};
+ghost use Rattle.cached_blocks.specs.Cached.{cached_blocks};
+ghost use Rattle.project_file.specs.Linked.{IsClosed, AreRanks};
+ghost use Rattle.script_machine.specs.Keeping.{control_fits};
+ghost use Rattle.script_machine.specs.Laws as laws;
 ghost use Rattle.script_machine.specs.Outcome.{Goes, StopIs};
-ghost use Rattle.script_machine.specs.Places.{at_place, place};
 ghost use Rattle.script_machine.specs.Step as machine;
-ghost use Rattle.project_check.specs.Loaded.{program_of, tables_of, blocks_at};
-ghost use Rattle.executions.specs.Ready.{IsReady, IsAfter};
-ghost use Rattle.executions.specs.Rows.{Enacts};
+ghost use Rattle.script_machine.specs.declared.threads.Context.TheVariants.{Fresh};
+ghost use Rattle.script_machine.specs.declared.threads.Control.TheVariants.{Clone};
+ghost use Rattle.targets.specs.Live.{IsLive};
+ghost use Rattle.thread_frames.specs.Levels.{top_block};
+ghost use Rattle.thread_moves.specs.Standing.{is_ended as has_ended};
+ghost use Rattle.project_check.specs.Loaded.{program_of, tables_of, blocks_at, ranks_at, sheet_at};
+ghost use Rattle.executions.specs.Rows.{Acts, Enacts};
+ghost use Rattle.executions.specs.Runners.{IsRunner, IsRunnerAfter, after_runner, with_runner};
 ghost use Rattle.executions.specs.Seen.{seen};
-ghost use Rattle.executions.specs.Nexts.{next_of};
 
 use crate::acting::is_own;
+use crate::moving::go_on;
+use crate::running::{Runner, give_back};
 use crate::state::State;
+use cached_blocks::CachedBlock;
 use evaluate::{View, inputs};
+use opcode_table::{Group, group};
 use project_check::Project;
 use scratch_values::Args;
-use script_machine::{BlockId, InstanceId, Report, Serial, TargetId, Which};
+use script_machine::{BlockId, Control, InstanceId, Report, Serial, TargetId};
 use script_words::{Rng, Stop};
 use std::alloc::Global;
-use thread_frames::Threads;
 
 // The block that a thread executes next, the target that has it, and the instance and the number of the thread.
 #[derive(Clone, Copy, Debug)]
@@ -29,121 +42,204 @@ pub(crate) struct Next {
     pub(crate) id: BlockId,
 }
 
-// What the thread at a place executes next; None where no thread stands there, or has nothing to do.
-fn next_block(threads: &Threads, which: Which) -> Option<Next>
-    ensures { result ≡ next_of (at_place which threads.now) }
+// Whether the thread has ended that reports this.
+fn is_ended(report: Report) -> bool
+    ensures { result ≡ has_ended report }
 {
-    let id = match threads.level(which, 0) {
-        Some(level) => match level.block {
-            Some(id) => id,
-            None => return None,
-        },
-        None => return None,
-    };
-    match threads.thread(which) {
-        Some(thread) => Some(Next {
-            target: thread.target(),
-            here: thread.of(),
-            serial: thread.serial(),
-            id,
-        }),
-        None => None,
-    }
+    matches!(report, Report::Ended)
 }
 
 impl<R: Rng + Drop> State<R> {
-    // The row of the block of the running thread, and what its control does; the inputs were evaluated.
-    fn enact(
+    // The row of a block of data, behind which the runner goes on.
+    #[inline]
+    fn enact_data(
+        &mut self,
+        project: &Project,
+        slot: u64,
+        runner: &mut Runner,
+        id: BlockId,
+        block: &CachedBlock,
+        args: &Args<'_>,
+        late: bool,
+    ) -> Result<Report, Stop>
+        requires runs { IsRunner project.now slot runner.old self.old }
+        requires top { top_block runner.old.levels ≡ Some id }
+        requires ranks { AreRanks (blocks_at runner.old.target project.now) (ranks_at runner.old.target project.now) }
+        requires closed { IsClosed (blocks_at runner.old.target project.now) }
+        requires block { slice_get (cached_blocks (sheet_at runner.old.target project.now)) id ≡ Some block.now }
+        requires group { group block.now.op ≡ group_of.Data }
+        ensures ok { IfOk result (λ report. Enacts R.stream project.now slot id late args.entry.now (with_runner runner.old self.old) (λ o. o ≡ Goes (record { world = seen R.stream project.now (after_runner report runner.new self.new); report = report }))) }
+        ensures after { IfOk result (λ report. IsRunnerAfter project.now slot report runner.new self.new) }
+        ensures stop { Enacts R.stream project.now slot id late args.entry.now (with_runner runner.old self.old) (StopIs result) }
+    {
+        match self.apply_data(project, block, args, runner.here) {
+            Ok(()) => Ok(go_on(project, &mut self.threads, runner, id)),
+            Err(stop) => Err(stop),
+        }
+    }
+
+    // What a control does that is not of the runner alone, whose block keeps nothing: its levels are given back before.
+    fn act_apart(
         &mut self,
         alloc: Global,
         project: &Project,
         slot: u64,
-        which: Which,
-        next: Next,
+        runner: &mut Runner,
+        id: BlockId,
+        control: Control,
+        late: bool,
+    ) -> Result<Report, Stop>
+        requires runs { IsRunner project.now slot runner.old self.old }
+        requires top { top_block runner.old.levels ≡ Some id }
+        requires held { runner.old.target < length (tables_of project.now) }
+        requires member { id < length (blocks_at runner.old.target project.now) }
+        requires own { laws.is_own control ≡ false }
+        requires clones { (original : ℕ) → control ≡ Clone original → IsLive original self.old.targets }
+        requires fits { (b : Cached) → slice_get (cached_blocks (sheet_at runner.old.target project.now)) id ≡ Some b → control_fits control (kind b.op) Fresh ≡ true }
+        ensures ok { IfOk result (λ report. Acts R.stream project.now slot id late control (with_runner runner.old self.old) (λ o. o ≡ Goes (record { world = seen R.stream project.now (after_runner report runner.new self.new); report = report }))) }
+        ensures after { IfOk result (λ report. IsRunnerAfter project.now slot report runner.new self.new) }
+        ensures stop { Acts R.stream project.now slot id late control (with_runner runner.old self.old) (StopIs result) }
+    {
+        let which = runner.which;
+        let next = runner.next(id);
+        give_back(alloc, &mut self.threads, runner);
+        match self.act_on_others(alloc, project, slot, which, next, control, late) {
+            Ok(report) => {
+                if !is_ended(report) {
+                    *runner = self.take_runner(project, slot);
+                }
+                Ok(report)
+            }
+            Err(stop) => Err(stop),
+        }
+    }
+
+    // The row of a block that may keep something, and what its control does.
+    fn enact_kept(
+        &mut self,
+        alloc: Global,
+        project: &Project,
+        slot: u64,
+        runner: &mut Runner,
+        id: BlockId,
+        block: &CachedBlock,
         args: &Args<'_>,
         late: bool,
     ) -> Result<Report, Stop>
-        requires ready { IsReady project.now slot self.old }
-        requires at { which ≡ place slot self.old.threads }
-        requires next { next_of (at_place which self.old.threads) ≡ Some next }
-        requires held { next.target < length (tables_of project.now) }
-        requires member { next.id < length (blocks_at next.target project.now) }
-        ensures ok { IfOk result (λ report. Enacts R.stream project.now slot next.id late args.entry.now self.old (λ o. o ≡ Goes (record { world = seen R.stream project.now self.new; report = report }))) }
-        ensures after { IfOk result (λ report. IsAfter project.now slot report self.new) }
-        ensures stop { Enacts R.stream project.now slot next.id late args.entry.now self.old (StopIs result) }
+        requires runs { IsRunner project.now slot runner.old self.old }
+        requires top { top_block runner.old.levels ≡ Some id }
+        requires held { runner.old.target < length (tables_of project.now) }
+        requires member { id < length (blocks_at runner.old.target project.now) }
+        requires ranks { AreRanks (blocks_at runner.old.target project.now) (ranks_at runner.old.target project.now) }
+        requires closed { IsClosed (blocks_at runner.old.target project.now) }
+        requires block { slice_get (cached_blocks (sheet_at runner.old.target project.now)) id ≡ Some block.now }
+        ensures ok { IfOk result (λ report. Enacts R.stream project.now slot id late args.entry.now (with_runner runner.old self.old) (λ o. o ≡ Goes (record { world = seen R.stream project.now (after_runner report runner.new self.new); report = report }))) }
+        ensures after { IfOk result (λ report. IsRunnerAfter project.now slot report runner.new self.new) }
+        ensures stop { Enacts R.stream project.now slot id late args.entry.now (with_runner runner.old self.old) (StopIs result) }
     {
-        let _rank = project.rank(next.target, next.id);
-        let _closed = project.blocks(next.target);
-        let block = project.cached(next.target, next.id);
-        let context = self.threads.take_context(which);
-        match self.apply(alloc, project, block, args, next.here, next.serial, context) {
+        let here = runner.here;
+        let serial = runner.serial;
+        let context = runner.levels.take_context();
+        match self.apply(alloc, project, block, args, here, serial, context) {
             Ok((control, context)) => {
                 if is_own(&control) {
-                    self.act_own(project, which, next.target, next.id, control, context, late)
+                    self.act_own(project, runner, id, control, context, late)
                 } else {
-                    self.act_on_others(alloc, project, slot, which, next, control, late)
+                    self.act_apart(alloc, project, slot, runner, id, control, late)
                 }
             }
             Err(stop) => Err(stop),
         }
     }
 
-    // One execution of the running thread, which stands at a place.
+    // The row of the block of a runner, and what its control does; the inputs were evaluated.
+    #[inline]
+    fn enact(
+        &mut self,
+        alloc: Global,
+        project: &Project,
+        slot: u64,
+        runner: &mut Runner,
+        id: BlockId,
+        args: &Args<'_>,
+        late: bool,
+    ) -> Result<Report, Stop>
+        requires runs { IsRunner project.now slot runner.old self.old }
+        requires top { top_block runner.old.levels ≡ Some id }
+        requires held { runner.old.target < length (tables_of project.now) }
+        requires member { id < length (blocks_at runner.old.target project.now) }
+        ensures ok { IfOk result (λ report. Enacts R.stream project.now slot id late args.entry.now (with_runner runner.old self.old) (λ o. o ≡ Goes (record { world = seen R.stream project.now (after_runner report runner.new self.new); report = report }))) }
+        ensures after { IfOk result (λ report. IsRunnerAfter project.now slot report runner.new self.new) }
+        ensures stop { Enacts R.stream project.now slot id late args.entry.now (with_runner runner.old self.old) (StopIs result) }
+    {
+        let _rank = project.rank(runner.target, id);
+        let _closed = project.blocks(runner.target);
+        let block = project.cached(runner.target, id);
+        if matches!(group(block.op), Group::Data) {
+            self.enact_data(project, slot, runner, id, block, args, late)
+        } else {
+            self.enact_kept(alloc, project, slot, runner, id, block, args, late)
+        }
+    }
+
+    // One execution of a runner, whose top level holds a block.
+    #[inline]
     fn execute(
         &mut self,
         alloc: Global,
         project: &Project,
         slot: u64,
-        which: Which,
-        next: Next,
+        runner: &mut Runner,
+        id: BlockId,
         late: bool,
     ) -> Result<Report, Stop>
-        requires ready { IsReady project.now slot self.old }
-        requires at { which ≡ place slot self.old.threads }
-        requires next { next_of (at_place which self.old.threads) ≡ Some next }
-        requires held { next.target < length (tables_of project.now) }
-        requires member { next.id < length (blocks_at next.target project.now) }
-        ensures ok { IfOk result (λ report. machine.step (program_of project.now) slot late (seen R.stream project.now self.old) ≡ Goes (record { world = seen R.stream project.now self.new; report = report })) }
-        ensures after { IfOk result (λ report. IsAfter project.now slot report self.new) }
-        ensures stop { StopIs result (machine.step (program_of project.now) slot late (seen R.stream project.now self.old)) }
+        requires runs { IsRunner project.now slot runner.old self.old }
+        requires top { top_block runner.old.levels ≡ Some id }
+        requires held { runner.old.target < length (tables_of project.now) }
+        requires member { id < length (blocks_at runner.old.target project.now) }
+        ensures ok { IfOk result (λ report. machine.step (program_of project.now) slot late (seen R.stream project.now (with_runner runner.old self.old)) ≡ Goes (record { world = seen R.stream project.now (after_runner report runner.new self.new); report = report })) }
+        ensures after { IfOk result (λ report. IsRunnerAfter project.now slot report runner.new self.new) }
+        ensures stop { StopIs result (machine.step (program_of project.now) slot late (seen R.stream project.now (with_runner runner.old self.old))) }
     {
-        let _rank = project.rank(next.target, next.id);
-        let _closed = project.blocks(next.target);
+        let _rank = project.rank(runner.target, id);
+        let _closed = project.blocks(runner.target);
+        let params = runner.levels.params();
         let view = View {
             project,
             targets: &self.targets,
             variables: &self.variables,
             devices: &self.devices,
-            here: next.here,
-            target: next.target,
-            params: self.threads.params(which),
+            here: runner.here,
+            target: runner.target,
+            params,
         };
-        match inputs(alloc, &view, next.id, &mut self.words) {
-            Ok(args) => self.enact(alloc, project, slot, which, next, &args, late),
-            Err(stop) => Err(stop),
+        match &inputs(alloc, &view, id, &mut self.words) {
+            Ok(args) => self.enact(alloc, project, slot, runner, id, args, late),
+            Err(stop) => Err(*stop),
         }
     }
 
-    /// One execution of the running thread, while the thread of a slot is visited: the inputs of its block, the block's row, and
-    /// what the row's control does with this thread and with others. `late` says that warp time had passed before it. The
-    /// answer tells what the thread reports. `Stop` is the first limit that is met: `Stack` exactly where a level is opened and
-    /// 65,536 are open, `Text` and `Counter` exactly where the machine meets them; the only other one is `NoMemory`. After a
-    /// stop nothing is told of the run.
+    /// One execution of a runner, while the thread of a slot is visited: the inputs of its block, the block's row, and what
+    /// the row's control does with this thread and with others. `late` says that warp time had passed before it. The answer
+    /// tells what the thread reports. Where the thread has ended it is given back, and the runner is only dropped. `Stop` is
+    /// the first limit that is met: `Stack` exactly where a level is opened and 65,536 are open, `Text` and `Counter` exactly
+    /// where the machine meets them; the only other one is `NoMemory`. After a stop nothing is told of the run.
+    #[inline]
     pub fn step(
         &mut self,
         alloc: Global,
         project: &Project,
         slot: u64,
+        runner: &mut Runner,
         late: bool,
     ) -> Result<Report, Stop>
-        requires { IsReady project.now slot self.old }
-        ensures ok { IfOk result (λ report. machine.step (program_of project.now) slot late (seen R.stream project.now self.old) ≡ Goes (record { world = seen R.stream project.now self.new; report = report })) }
-        ensures after { IfOk result (λ report. IsAfter project.now slot report self.new) }
-        ensures stop { StopIs result (machine.step (program_of project.now) slot late (seen R.stream project.now self.old)) }
+        requires { IsRunner project.now slot runner.old self.old }
+        ensures ok { IfOk result (λ report. machine.step (program_of project.now) slot late (seen R.stream project.now (with_runner runner.old self.old)) ≡ Goes (record { world = seen R.stream project.now (after_runner report runner.new self.new); report = report })) }
+        ensures after { IfOk result (λ report. IsRunnerAfter project.now slot report runner.new self.new) }
+        ensures stop { StopIs result (machine.step (program_of project.now) slot late (seen R.stream project.now (with_runner runner.old self.old))) }
     {
-        let which = self.threads.place(slot);
-        match next_block(&self.threads, which) {
-            Some(next) => self.execute(alloc, project, slot, which, next, late),
+        match runner.block() {
+            Some(id) => self.execute(alloc, project, slot, runner, id, late),
             None => unreachable!(),
         }
     }

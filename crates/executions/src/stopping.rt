@@ -12,7 +12,7 @@ ghost use Rattle.executions.specs.Resting.{IsIdle};
 ghost use Rattle.executions.specs.Rows.{Acts};
 ghost use Rattle.executions.specs.Seen.{seen};
 
-use crate::moving::go_on;
+use crate::listed::go_on;
 use crate::state::State;
 use crate::stepping::Next;
 use project_check::Project;

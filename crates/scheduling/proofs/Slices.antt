@@ -5,7 +5,7 @@ use Rattle.script_words.specs.declared.stops.Stop.{Stop}
 use Rattle.script_machine.specs.declared.threads.Report.{Report}
 use Rattle.script_machine.specs.declared.threads.Report.TheVariants.{Go, Uncovered, Yielded, Ticked, Waits, Ended}
 use Rattle.script_machine.specs.Outcome.{Outcome, Goes, then_do, StopIs}
-use Rattle.script_machine.specs.Places.{Places, running}
+use Rattle.script_machine.specs.Places.{Places, at_place, running}
 use Rattle.script_machine.specs.Slice.{go_on, is_late, counted_after, slice_goes_on, Executing, behind, slice_by, flag_of}
 use Rattle.project_file.specs.Trees.{Sheet}
 use Rattle.thread_frames.specs.Levels.{warp_flag}
@@ -15,7 +15,10 @@ use Rattle.thread_moves.specs.Standing.{is_ended}
 use Rattle.project_check.specs.declared.project.Project.{Project}
 use Rattle.executions.specs.declared.state.State.{State}
 use Rattle.executions.specs.Seen.{sheets, seen_threads}
-use Rattle.executions.specs.Ready.{IsKept, IsReady, IsReadyUnless, IsAfter}
+use Rattle.executions.specs.declared.running.Runner.{Runner}
+use Rattle.executions.specs.Ready.{IsKept}
+use Rattle.executions.specs.Runners.{IsRunner, IsRunnerUnless, IsRunnerAfter, after_runner, given_back, given_unless, with_runner}
+use Rattle.executions.proofs.Apart.{back_levels, back_place}
 use Rattle.executions.proofs.Placing.{running_seen}
 use Rattle.executions.proofs.Stops.{stop-then, stop-same}
 
@@ -28,7 +31,7 @@ pub flag_seen : (p : Project) (i : ℕ) (ts : Places Thread) → flag_of (runnin
 flag_seen p i ts = ap flag_of (running_seen (task (sheets p)) i ts) ∙ flag_of_task (sheets p) (running i ts)
 
 -- where a slice goes on, the thread has not ended
-goes_on_lives : (r : Report) (before after late : Bool) → slice_goes_on r before after late ≡ true → is_ended r ≡ false
+pub goes_on_lives : (r : Report) (before after late : Bool) → slice_goes_on r before after late ≡ true → is_ended r ≡ false
 goes_on_lives Go before after late e = refl
 goes_on_lives Uncovered before after late e = refl
 goes_on_lives Yielded before after late e = refl
@@ -36,15 +39,47 @@ goes_on_lives Ticked before after late e = refl
 goes_on_lives Waits before after late e = refl
 goes_on_lives Ended before after late e = absurd (cc e)
 
-kept_unless : {R : Type 0} (b : Bool) (p : Project) (i : ℕ) (s : State R) → IsReadyUnless b p i s → IsKept p s
-kept_unless true p i s h = h
-kept_unless false p i s h = h.kept
+-- where it has ended the slice does not
+ended_off : (r : Report) (before after late : Bool) → is_ended r ≡ true → slice_goes_on r before after late ≡ false
+ended_off Ended before after late e = refl
+ended_off r before after late e = absurd (cc e)
 
-pub after_kept : {R : Type 0} (p : Project) (i : ℕ) (r : Report) (s : State R) → IsAfter p i r s → IsKept p s
-after_kept p i r s h = kept_unless (is_ended r) p i s h
+-- an execution behind which the slice ends, whatever the flag is of a thread that has ended
+pub off_by : (r : Report) (before after flag late : Bool) → (is_ended r ≡ false → after ≡ flag) → false ≡ slice_goes_on r before after late → false ≡ slice_goes_on r before flag late
+off_by r before after flag late same h = by (is_ended r) refl
+  where
+    by : (b : Bool) → is_ended r ≡ b → false ≡ slice_goes_on r before flag late
+    by true e = sym (ended_off r before flag late e)
+    by false e = h ∙ ap (λ x. slice_goes_on r before x late) (same e)
 
-pub after_ready : {R : Type 0} (p : Project) (i : ℕ) (r : Report) (s : State R) (before after late : Bool) → true ≡ slice_goes_on r before after late → IsAfter p i r s → IsReady p i s
-after_ready p i r s before after late e h = subst (λ b. IsReadyUnless b p i s) (goes_on_lives r before after late (sym e)) h
+-- the flag of a runner is that of its thread in the list
+pub runner_flag : {R : Type 0} (p : Project) (i : ℕ) (r : Runner) (w : State R) → IsRunner p i r w → flag_of (running i (seen_threads p (given_back r w.threads))) ≡ warp_flag r.levels
+runner_flag p i r w runs =
+    flag_seen p i (given_back r w.threads)
+    ∙ ap (λ z. warp_flag (levels_of (at_place z (given_back r w.threads)))) (sym (back_place r w.threads runs.apart i runs.place_is))
+    ∙ ap warp_flag (back_levels r w.threads runs.apart)
+
+runs_by : {R : Type 0} (b : Bool) (p : Project) (i : ℕ) (r : Runner) (w : State R) → b ≡ false → IsRunnerUnless b p i r w → IsRunner p i r w
+runs_by true p i r w e h = absurd (cc e)
+runs_by false p i r w e h = h
+
+-- after an execution that has not ended the thread there is a runner
+module _ {R : Type 0} (p : Project) (i : ℕ) (report : Report) (r : Runner) (w : State R) (runs : IsRunnerAfter p i report r w) where
+  pub still_runs : is_ended report ≡ false → IsRunner p i r w
+  still_runs e = runs_by (is_ended report) p i r w e runs
+
+  pub still_given : is_ended report ≡ false → after_runner report r w ≡ with_runner r w
+  still_given e = ap (λ b. record w { threads = given_unless b r w.threads }) e
+
+  pub flag_after : is_ended report ≡ false → warp_flag r.levels ≡ flag_of (running i (seen_threads p (after_runner report r w).threads))
+  flag_after e = sym (ap (λ (x : State R). flag_of (running i (seen_threads p x.threads))) (still_given e) ∙ runner_flag p i r w (still_runs e))
+
+  kept_by : (b : Bool) → IsRunnerUnless b p i r w → IsKept p (record w { threads = given_unless b r w.threads })
+  kept_by true h = h
+  kept_by false h = h.ready.kept
+
+  pub after_kept : IsKept p (after_runner report r w)
+  after_kept = kept_by (is_ended report) runs
 
 -- Slices, whatever a world and its execution are
 module _ {W : Type 0} (e : Executing W) (budget : ℕ) where

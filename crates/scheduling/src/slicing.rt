@@ -2,16 +2,18 @@
 
 ghost use Rattle.std.specs.Prelude.{◌≡◌, ◌≤◌, ◌<◌, ◌+◌, ◌^◌, IfOk, is_some};
 ghost use Rattle.script_machine.specs.Outcome.{Goes, StopIs};
-ghost use Rattle.script_machine.specs.Places.{running, at_place};
+ghost use Rattle.script_machine.specs.Places.{at_place};
 ghost use Rattle.script_machine.specs.Slice as machine;
-ghost use Rattle.thread_frames.specs.Levels.{warp_flag, top_block};
+ghost use Rattle.thread_frames.specs.Levels.{top_block};
 ghost use Rattle.thread_frames.specs.Threads.{levels_of};
+ghost use Rattle.thread_moves.specs.Standing.{is_ended as has_ended};
 ghost use Rattle.project_check.specs.Loaded.{program_of};
 ghost use Rattle.executions.specs.Ready.{IsKept, IsReady};
+ghost use Rattle.executions.specs.Runners.{IsRunnerAfter, after_runner};
 ghost use Rattle.executions.specs.Seen.{seen};
 ghost use Rattle.scheduling.specs.Turns.{CanTurn};
 
-use executions::State;
+use executions::{Runner, State};
 use project_check::Project;
 use script_machine::{Report, Which};
 use script_words::{Rng, Stop};
@@ -21,17 +23,8 @@ use thread_frames::Threads;
 // The most executions of a slice.
 const MOST_EXECUTIONS: u32 = 1_000_000;
 
-// The warp flag of the running thread; false where no thread runs.
-fn is_warp(threads: &Threads, slot: u64) -> bool
-    ensures { result ≡ warp_flag (levels_of (running slot threads.now)) }
-{
-    match threads.level(threads.place(slot), 0) {
-        Some(level) => level.warp,
-        None => false,
-    }
-}
-
 // The executions that are counted, after one more.
+#[inline]
 fn counted_after(counted: u32, flag: bool) -> u32
     requires { counted < 2 ^ 31 }
     ensures value { result ≡ machine.counted_after counted flag }
@@ -44,7 +37,33 @@ fn counted_after(counted: u32, flag: bool) -> u32
     }
 }
 
+// Whether the thread has ended that reports this.
+#[inline]
+fn is_ended(report: Report) -> bool
+    ensures { result ≡ has_ended report }
+{
+    matches!(report, Report::Ended)
+}
+
+// Gives a runner back, unless its thread has ended.
+#[inline]
+fn put_back<R: Rng + Drop>(
+    state: &mut State<R>,
+    project: &Project,
+    slot: u64,
+    runner: Runner,
+    report: Report,
+)
+    requires { IsRunnerAfter project.now slot report runner state.old }
+    ensures { state.new ≡ after_runner report runner state.old }
+{
+    if !is_ended(report) {
+        state.put_runner(runner);
+    }
+}
+
 // Whether a slice goes on behind an execution.
+#[inline]
 fn goes_on(report: Report, before: bool, after: bool, late: bool) -> bool
     ensures { result ≡ machine.slice_goes_on report before after late }
 {
@@ -76,20 +95,24 @@ pub fn slice<R: Rng + Drop>(
     ensures stop { StopIs result (machine.slice (program_of project.now) warp slot machine.most_executions 0 (seen R.stream project.now state.old)) }
     ensures kept { IfOk result (λ _. IsKept project.now state.new) }
 {
+    let mut runner = state.take_runner(project, slot);
     let mut counted: u32 = 0;
+    let mut before = runner.is_warp();
     for execution in 0..MOST_EXECUTIONS {
-        let before = is_warp(&state.threads, slot);
-        match state.step(alloc, project, slot, counted > warp) {
+        match state.step(alloc, project, slot, &mut runner, counted > warp) {
             Ok(report) => {
                 counted = counted_after(counted, before);
-                let after = is_warp(&state.threads, slot);
+                let after = runner.is_warp();
                 if !goes_on(report, before, after, counted > warp) {
+                    put_back(state, project, slot, runner, report);
                     return Ok(());
                 }
+                before = after;
             }
             Err(stop) => return Err(stop),
         }
     }
+    state.put_runner(runner);
     Ok(())
 }
 

@@ -15,7 +15,3 @@ pub returns-in-Ok-clause-heads : goal.returns-in-Ok-clause-heads
 returns-in-Ok-clause-heads g c = λ x h.
     subst (λ is. IsHeadOf c.args.project.now is x) (sym c.start_risen.ensures.cast)
     (heads-noted c.args.project.now c.args.state.now.targets c.args.edge.now c.args.value c.set_edge.new.self c.in-Ok.ensures.new x h)
-
-pub start_risen-requires-clause-idle : goal.start_risen-requires-clause-idle
-start_risen-requires-clause-idle g c =
-    idle_cast c.args.project.now c.args.state.now (record c.args.state.now { targets = c.set_edge.new.self }) refl refl refl refl c.requires.idle c.in-Ok.ensures.kept

@@ -1,11 +1,13 @@
--- The levels that were taken are moved, and have room where they were.
-use Rattle.std.proofs.Common.{arith, ◌∷◌}
+-- The levels of the runner are moved.
+use Rattle.std.proofs.Common.{refl, ap, ◌∙◌, ◌∷◌}
+use Rattle.script_machine.specs.Places.{on_place}
+use Rattle.thread_frames.specs.Threads.{with_status}
 use Rattle.script_machine.specs.Pending.{kept}
-use Rattle.executions.proofs.Lent.{room, moves_on}
+use Rattle.executions.proofs.Apart.{moves_on}
 use Rattle.executions.proofs.moving.stay.Goals as goal
 
-pub put_back-requires : goal.put_back-requires
-put_back-requires c = room _ _ _ _ _ _ _ c.requires.at c.take_levels-levels.ensures.levels c.take_levels-levels.ensures.left _ 0 (omega (arith, c.levels-open.ensures.few)) (omega (arith, c.stay-report.ensures.fewer))
-
-pub returns : goal.returns
-returns c = moves_on _ _ _ _ _ _ _ c.requires.at c.take_levels-levels.ensures.levels c.take_levels-levels.ensures.left _ _ _ c.put_back.ensures (λ s rest warp. record { items = kept s c.args.context ∷ rest; warp = warp; report = c.args.report }) c.stay-report.ensures.at
+pub returns-clause-at : goal.returns-clause-at
+returns-clause-at c =
+    moves_on c.args.project.now c.args.id c.args.runner.now _ c.args.threads.now c.set_status.new.self c.stay-report.result c.requires.apart refl
+    (c.set_status.ensures ∙ ap (λ s. on_place (with_status s) c.args.runner.now.which c.args.threads.now) c.status_after.ensures)
+    (λ s rest warp. record { items = kept s c.args.context ∷ rest; warp = warp; report = c.args.report }) c.stay-report.ensures.at

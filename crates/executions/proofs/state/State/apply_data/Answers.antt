@@ -14,5 +14,5 @@ returns-in-Ok-clause-kept g c = record {
   targets = λ n. refl;
   one_each = λ h. h;
   free = λ n e. data_none n (records_in c.records.result.now) c.args.self.now.targets c.args.block.now.op c.args.args.now c.args.here (parts_of g.R.Rng.stream c.args.self.now.variables c.args.self.now.words)
-      (record { parts = parts_of g.R.Rng.stream c.apply.new.variables c.apply.new.words; context = Fresh; control = c.in-Ok.control; redraw = c.in-Ok.redraw }) c.in-Ok.ensures.ok e;
+      (record { parts = parts_of g.R.Rng.stream c.apply.new.variables c.apply.new.words; context = Fresh; control = c.in-Ok.answer.0; redraw = c.in-Ok.answer.1 }) c.in-Ok.ensures.ok e;
 }

@@ -1,7 +1,9 @@
--- The targets of the instance and of the stage have costumes, and looks leave who is live and of which target.
+-- The targets of the instance and of the stage have costumes, as all targets of a project have, and looks leave who is live and of which target.
 use Rattle.std.proofs.Common.{length, refl, sym, subst}
+use Rattle.std.specs.Prelude.{All}
 use Rattle.script_machine.specs.Program.{Records, stage_number}
 use Rattle.script_machine.specs.Stores.{instance_at}
+use Rattle.project_check.specs.Kept.{IsDressed}
 use Rattle.project_check.specs.Loaded.{program_of}
 use Rattle.looks_blocks.specs.Costumes.{HasCostumes}
 use Rattle.executions.proofs.Clonable.{looks_clones}
@@ -11,14 +13,16 @@ use Rattle.executions.proofs.state.State.apply_looks.Goals as goal
 pub apply-requires-clause-costumes : goal.apply-requires-clause-costumes
 apply-requires-clause-costumes g c =
     let s = c.args.self.now in
+    let dressed : All IsDressed (program_of c.args.project.now).records.targets = subst (λ (r : Records). All IsDressed r.targets) c.records.ensures.records c.records.ensures.dressed in
     subst (λ (r : Records). HasCostumes r (instance_at c.args.here s.targets)) (sym c.records.ensures.records)
-    (has_costumes c.args.project.now c.requires.dressed s.next_instance s.targets c.requires.people c.args.here c.requires.live)
+    (has_costumes c.args.project.now dressed s.next_instance s.targets c.requires.people c.args.here c.requires.live)
 
 pub apply-requires-clause-backdrops : goal.apply-requires-clause-backdrops
 apply-requires-clause-backdrops g c =
     let s = c.args.self.now in
+    let dressed : All IsDressed (program_of c.args.project.now).records.targets = subst (λ (r : Records). All IsDressed r.targets) c.records.ensures.records c.records.ensures.dressed in
     subst (λ (r : Records). HasCostumes r (instance_at (stage_number r) s.targets)) (sym c.records.ensures.records)
-    (has_backdrops c.args.project.now c.requires.dressed s.next_instance s.targets c.requires.people c.args.here c.requires.live)
+    (has_backdrops c.args.project.now dressed s.next_instance s.targets c.requires.people c.args.here c.requires.live)
 
 pub returns-in-Ok-clause-clones : goal.returns-in-Ok-clause-clones
 returns-in-Ok-clause-clones g c = looks_clones c.args.here (length (program_of c.args.project.now).records.targets) c.in-Ok.control c.in-Ok.ensures.starts

@@ -11,6 +11,6 @@ use Rattle.executions.proofs.state.State.open.Goals as goal
 pub returns-clause-kept : goal.returns-clause-kept
 returns-clause-kept g c =
     let p = c.args.project.now in
-    none_idle p _ c.in_ok-new-2.ensures (omega arith) c.requires
+    none_idle p _ c.in_ok-new-2.ensures (omega arith)
     (first_people p c.target_count.result c.target_count.ensures c.in_ok-open.field-0 (c.in_ok-open.ensures ∙ ap (λ (r : Records). first_instances r.targets) c.records-records.ensures.records))
     (first_none p c.target_count.result c.target_count.ensures c.in_ok-open-2.field-0 (ap (λ (v : Variables). v.stores) c.in_ok-open-2.ensures ∙ ap (λ (r : Records). stores_of r.targets) c.records-records.ensures.records))

@@ -14,6 +14,6 @@ pub returns-clause-kept : goal.returns-clause-kept
 returns-clause-kept g c =
     let s = c.args.self.now in
     let all : c.targets-targets.result ≡ length (program_of c.args.project.now).records.targets = c.targets-targets.ensures ∙ ap (λ (r : Records). length r.targets) c.records.ensures.records in
-    none_idle c.args.project.now _ c.clear.ensures c.requires.few c.requires.dressed
+    none_idle c.args.project.now _ c.clear.ensures c.requires.few
     (subst (ArePeopled c.args.project.now s.next_instance) (sym (c.stop_all.ensures.new ∙ ap (λ n. stopped n s.targets) all)) (people_stopped c.args.project.now s.next_instance s.targets c.requires.people))
     (subst (HasNoneFrom s.next_instance) (sym c.stop_all-2.ensures.new) (λ n le. none_filtered (λ (x : Store). x.of == n) (λ (x : Store). not (not (nat_lt x.of c.targets-targets.result))) s.variables.stores (c.requires.free n le)))

@@ -4,7 +4,7 @@ use Rattle.script_machine.specs.Tasks.{status_after}
 use Rattle.thread_frames.specs.Threads.{on_levels, with_status}
 use Rattle.executions.proofs.Placing.{on_twice}
 use Rattle.script_machine.specs.Places.{on_place}
-use Rattle.executions.proofs.moving.put_back.Goals as goal
+use Rattle.executions.proofs.listed.put_back.Goals as goal
 
 pub returns : goal.returns
 returns c = on_twice (on_levels (λ ls. c.args.levels)) (with_status (status_after c.args.report)) c.args.which _ _ _ c.put_levels.ensures (c.set_status.ensures ∙ ap (λ s. on_place (with_status s) c.args.which c.put_levels.new.self) c.status_after.ensures)

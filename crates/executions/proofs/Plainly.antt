@@ -1,0 +1,105 @@
+-- A block of data: it keeps nothing, and the thread goes on behind it.
+use Rattle.std.proofs.Common.{◌≡◌, ℕ, Bool, true, false, List, Option, Some, None, Result, Ok, Err, refl, sym, ap, ◌∙◌, subst}
+use Rattle.std.specs.Prelude.{slice_get}
+use Rattle.rand_core.specs.Stream.{Stream}
+use Rattle.script_words.specs.declared.stops.Stop.{Stop}
+use Rattle.scratch_values.specs.Named.{Arguments}
+use Rattle.opcode_table.specs.declared.grouping.Group.TheVariants.{Data}
+use Rattle.opcode_table.specs.declared.kinds.Kind.TheVariants.{Plain}
+use Rattle.opcode_table.specs.declared.opcode.Opcode.{Opcode}
+use Rattle.opcode_table.specs.declared.opcode.Opcode.TheVariants.{DataSetVariableTo, DataChangeVariableBy, DataShowVariable, DataHideVariable, DataAddToList, DataDeleteOfList, DataDeleteAllOfList, DataInsertAtList, DataReplaceItemOfList, DataShowList, DataHideList}
+use Rattle.opcode_table.specs.Kinds.{kind, group}
+use Rattle.control_blocks.specs.Afresh.{was_afresh}
+use Rattle.script_machine.specs.Outcome.{Outcome, Goes, StopIs}
+use Rattle.script_machine.specs.declared.threads.Context.{Context}
+use Rattle.script_machine.specs.declared.threads.Context.TheVariants.{Fresh}
+use Rattle.script_machine.specs.declared.threads.Control.TheVariants.{Next}
+use Rattle.script_machine.specs.declared.threads.Report.{Report}
+use Rattle.script_machine.specs.declared.threads.Which.{Which}
+use Rattle.script_machine.specs.Pending.{settle}
+use Rattle.script_machine.specs.Places.{Places, at_place, put, place, on_place}
+use Rattle.project_file.specs.Linked.{IsClosed, AreRanks}
+use Rattle.project_file.specs.declared.blocks.Block.{Block}
+use Rattle.project_check.specs.declared.project.Project.{Project}
+use Rattle.project_check.specs.Loaded.{blocks_at, ranks_at}
+use Rattle.cached_blocks.specs.declared.block.CachedBlock.{CachedBlock}
+use Rattle.cached_blocks.specs.Cached.{cached_block, cached_blocks}
+use Rattle.thread_frames.specs.Levels.{on_top, with_context, top_context}
+use Rattle.thread_frames.specs.Fit.{kind_of}
+use Rattle.thread_frames.specs.Threads.{Thread, levels_of, on_levels}
+use Rattle.thread_moves.proofs.Moves.{cached_is}
+use Rattle.executions.specs.declared.state.State.{State}
+use Rattle.executions.specs.declared.stepping.Next.{Next as Following}
+use Rattle.executions.specs.Seen.{sheets, seen}
+use Rattle.executions.specs.Ready.{IsReady, IsAfter}
+use Rattle.executions.specs.Moves.{IsAtBlock, MovesOn}
+use Rattle.executions.specs.Nexts.{next_of}
+use Rattle.executions.specs.Rows.{RowGoes, RowStops, Leaves, Enacts}
+use Rattle.executions.proofs.Enacting as enacting
+use Rattle.executions.proofs.Enacting.{fresh_by, same_levels}
+use Rattle.executions.proofs.Placing.{on_is, put_self}
+use Rattle.executions.proofs.Steps as steps
+use Rattle.executions.proofs.Taking.{without, found}
+
+pub data_plain : (o : Opcode) → group o ≡ Data → kind o ≡ Plain
+data_plain DataSetVariableTo h = refl
+data_plain DataChangeVariableBy h = refl
+data_plain DataShowVariable h = refl
+data_plain DataHideVariable h = refl
+data_plain DataAddToList h = refl
+data_plain DataDeleteOfList h = refl
+data_plain DataDeleteAllOfList h = refl
+data_plain DataInsertAtList h = refl
+data_plain DataReplaceItemOfList h = refl
+data_plain DataShowList h = refl
+data_plain DataHideList h = refl
+data_plain o h = absurd (cc h)
+
+module _ {R : Type 0} (stream : R → Stream) (p : Project) (i : ℕ) (which : Which) (n : Following) (late : Bool) (a : Arguments) (w : State R) (ready : IsReady p i w) (at : which ≡ place i w.threads)
+    (next : next_of (at_place which w.threads) ≡ Some n) (ranks : AreRanks (blocks_at n.target p) (ranks_at n.target p)) (closed : IsClosed (blocks_at n.target p))
+    (b : CachedBlock) (cached : slice_get (cached_blocks (sheets p n.target)) n.id ≡ Some b) (plain : kind b.op ≡ Plain) where
+  abbrev facts : enacting.IsNext ready.thread n
+  facts = enacting.facts stream p i which n late a w ready at next ranks closed
+
+  abbrev ranked : Rattle.thread_moves.specs.Ranked.IsRanked (sheets p ready.thread.target)
+  ranked = enacting.ranked stream p i which n late a w ready at next ranks closed
+
+  block_is : b ≡ cached_block (sheets p ready.thread.target) n.id (steps.th stream p i n.id late w ready facts.holds ranked).block
+  block_is = cached_is (sheets p ready.thread.target) ready.thread.levels n.id ranked (steps.th stream p i n.id late w ready facts.holds ranked) b (subst (λ t. slice_get (cached_blocks (sheets p t)) n.id ≡ Some b) facts.target_is cached)
+
+  -- the block has kept nothing
+  fresh : top_context ready.thread.levels ≡ Fresh
+  fresh = fresh_by ready.thread.levels n.id (sheets p ready.thread.target) ready.ready facts.holds Plain (λ o e. kind_here o e) refl
+    where
+      kind_here : (o : Block) → slice_get (sheets p ready.thread.target).blocks n.id ≡ Some o → kind_of o ≡ Plain
+      kind_here o e =
+          let th = steps.th stream p i n.id late w ready facts.holds ranked in
+          let same : o ≡ th.block = cc (sym e ∙ th.found) in
+          ap kind_of same ∙ ap (λ x. kind x.op) (sym block_is) ∙ plain
+
+  found_here : at_place which w.threads ≡ Some ready.thread
+  found_here = ap (λ z. at_place z w.threads) at ∙ ready.found
+
+  -- so that nothing would be taken out
+  nothing_taken : w.threads ≡ on_place (on_levels (on_top (with_context Fresh))) which w.threads
+  nothing_taken =
+      let thread_is : without ready.thread ≡ ready.thread = ap (λ ls. record ready.thread { levels = ls }) (same_levels ready.thread.levels fresh) in
+      sym (on_is (on_levels (on_top (with_context Fresh))) which w.threads (on_place (on_levels (on_top (with_context Fresh))) which w.threads) ready.thread found_here refl
+      ∙ ap (λ t. put which t w.threads) thread_is ∙ put_self which w.threads ready.thread found_here)
+
+  keeps_nothing : Fresh ≡ top_context (levels_of (at_place which w.threads))
+  keeps_nothing = sym (ap (λ o. top_context (levels_of o)) found_here ∙ fresh)
+
+  pub stands_at : IsAtBlock p which w.threads n.target n.id
+  stands_at = enacting.stands_at stream p i which n late a w ready at next ranks closed w.threads Fresh keeps_nothing nothing_taken b cached
+
+  pub row_stops : (T U : Type 0) (stop : Stop) → ((thread : ℕ) (context : Context) → RowStops {T = T} stream p b a n.here thread context w (Err stop)) → Enacts stream p i n.id late a w (StopIs {T = U} (Err stop))
+  row_stops T U stop stops = enacting.row_stops stream p i which n late a w ready at next ranks closed w.threads Fresh keeps_nothing nothing_taken b cached T U stop (stops n.serial Fresh)
+
+  module _ (new : State R) (goes : (thread : ℕ) (context : Context) → RowGoes stream p b a n.here thread context w Fresh new Next) (left : Leaves w new)
+      (last : State R) (report : Report) (moves : MovesOn p which n.target n.id (λ s rest warp. settle rest warp) new.threads last.threads report) (last_is : last ≡ record new { threads = last.threads }) where
+    pub goes_on : Enacts stream p i n.id late a w (λ o. o ≡ Goes (record { world = seen stream p last; report = report }))
+    goes_on = enacting.own_goes stream p i which n late a w ready at next ranks closed w.threads Fresh keeps_nothing nothing_taken b cached new Next Fresh (goes n.serial Fresh) refl left last report moves last_is (λ e. absurd (cc e))
+
+    pub goes_after : IsAfter p i report last
+    goes_after = enacting.own_after stream p i which n late a w ready at next ranks closed w.threads Fresh keeps_nothing nothing_taken b cached new Next Fresh (goes n.serial Fresh) refl left last report moves last_is

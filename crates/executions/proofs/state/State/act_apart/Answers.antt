@@ -1,0 +1,18 @@
+-- The levels are given back, others are acted on, and a thread that has not ended is a runner again.
+use Rattle.std.proofs.Common.{◌≡◌, Err, sym}
+use Rattle.script_machine.specs.Outcome.{Goes, StopIs}
+use Rattle.script_machine.specs.declared.threads.Report.{Report}
+use Rattle.executions.specs.Runners.{with_runner}
+use Rattle.executions.specs.Seen.{seen}
+use Rattle.executions.proofs.Runs.{acts_given, acts_to, again}
+use Rattle.executions.proofs.state.State.act_apart.Goals as goal
+
+pub returns-then-not-is_ended-clause-ok : goal.returns-then-not-is_ended-clause-ok
+returns-then-not-is_ended-clause-ok g c =
+    acts_to g.R.Rng.stream c.args.project.now c.args.slot c.args.id c.args.late c.args.control (with_runner c.args.runner.now c.args.self.now) c.in-Ok.report c.act_on_others.new.self _
+    (again c.in-Ok.report c.take_runner.result c.take_runner.new.self c.act_on_others.new.self (sym c.if-not-is_ended.ensures) c.take_runner.ensures.same)
+    (acts_given g.R.Rng.stream c.args.project.now c.args.slot c.args.id c.args.late c.args.control c.args.runner.now c.args.self.now c.give_back.new.threads c.give_back.ensures.given c.next-next.result c.next-next.ensures (λ o. o ≡ Goes (record { world = seen g.R.Rng.stream c.args.project.now c.act_on_others.new.self; report = c.in-Ok.report })) c.in-Ok.ensures.ok)
+
+pub returns-in-Err-clause-stop : goal.returns-in-Err-clause-stop
+returns-in-Err-clause-stop g c =
+    acts_given g.R.Rng.stream c.args.project.now c.args.slot c.args.id c.args.late c.args.control c.args.runner.now c.args.self.now c.give_back.new.threads c.give_back.ensures.given c.next-next.result c.next-next.ensures (StopIs {T = Report} (Err c.in-Err.stop)) c.in-Err.ensures.stop
