@@ -3,4 +3,3 @@ pub mod Programs
 pub mod Outputs
 pub mod Turns
 pub mod Calls
-pub mod Dressed

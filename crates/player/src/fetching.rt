@@ -1,9 +1,8 @@
 //! Fetching and loading the files that the words name.
 
-ghost use Rattle.std.specs.Prelude.{◌≡◌, ◌^◌, ◌<◌, length, IfOk};
+ghost use Rattle.std.specs.Prelude.{◌≡◌, ◌^◌, ◌<◌, length};
 ghost use Rattle.sv_channels.specs.Counts.{next_count, Rose, NoneFell};
 ghost use Rattle.project_check.specs.Loaded.{program_of};
-ghost use Rattle.executions.specs.Ready.{AreDressed};
 ghost use Rattle.player.specs.Promise.{Loads, Checks};
 ghost use Rattle.player.specs.Stages.{Fetched, FetchedSteadily, Loaded, RefusedAs};
 
@@ -49,8 +48,7 @@ fn refused(refusal: Refusal) -> Status
 // The project that the bytes of a file tell.
 pub(crate) fn load_project(alloc: Global, bytes: &[u8]) -> Result<Project, Status>
     requires { length bytes.now < 2 ^ 32 }
-    ensures loaded { Loaded (Loads bytes.now) program_of result }
-    ensures dressed { IfOk result (λ project. AreDressed project) }
+    ensures { Loaded (Loads bytes.now) program_of result }
 {
     match load(alloc, bytes) {
         Ok(project) => Ok(project),

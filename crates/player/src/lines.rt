@@ -16,8 +16,8 @@ ghost use Rattle.script_machine.specs.World.{World};
 ghost use Rattle.script_machine.specs.FrameText.{frame_text as machine_text};
 ghost use Rattle.project_check.specs.Loaded.{program_of};
 ghost use Rattle.input_script.specs.Reader.{IsForward};
-ghost use Rattle.executions.specs.Ready.{AreDressed};
 ghost use Rattle.sequencer.specs.Runs.{world_of, IsRunOf};
+ghost use Rattle.stage_frame.specs.Writers.{records_of};
 ghost use Rattle.input_lines.specs.Frames.{is_frame};
 ghost use Rattle.player.specs.Limits.{script_limit};
 ghost use Rattle.player.specs.Promise.{ran, stop_of, output_of, Wrote, Writes};
@@ -30,7 +30,7 @@ use project_check::Project;
 use script_machine::{Budget, Line, LineRefusal};
 use script_words::{Counted, Rng, Stop};
 use sequencer::Run;
-use stage_frame::{View, frame_text};
+use stage_frame::{FrameWriter, View};
 use std::alloc::{AllocError, Global};
 use sv_channels::{Sink, SinkError};
 
@@ -129,7 +129,9 @@ fn text_of_frame<R: Rng + Drop>(
     alloc: Global,
     project: &Project,
     run: &Run<R>,
+    writer: &FrameWriter<'_>,
 ) -> Result<Vec<u8>, AllocError>
+    requires { records_of writer.now ≡ (program_of project.now).records }
     ensures { IfOk result (λ text. text.items ≡ machine_text (program_of project.now) (world_of R.stream project.now run.now)) }
 {
     let view = View {
@@ -139,7 +141,7 @@ fn text_of_frame<R: Rng + Drop>(
         variables: run.variables(),
         devices: run.devices(),
     };
-    frame_text(alloc, project.records(), &view)
+    writer.text(alloc, &view)
 }
 
 // Makes a frame, and writes its text.
@@ -147,9 +149,11 @@ fn play_frame<R: Rng + Drop, K: Sink>(
     alloc: Global,
     project: &Project,
     run: &mut Run<R>,
+    writer: &FrameWriter<'_>,
     budget: Budget,
     out: &mut K,
 ) -> Result<(), Status>
+    requires writer { records_of writer.now ≡ (program_of project.now).records }
     requires fits { IsRunOf project.now run.old }
     requires clock { run.old.state.devices.clock ≤ budget.clock }
     ensures fits { OnOk result (IsRunOf project.now run.new) }
@@ -165,7 +169,7 @@ fn play_frame<R: Rng + Drop, K: Sink>(
         Ok(()) => {}
         Err(stop) => return Err(stopped(alloc, stop, out)),
     }
-    let Ok(text) = text_of_frame(alloc, project, run) else {
+    let Ok(text) = text_of_frame(alloc, project, run, writer) else {
         return Err(Status::NoMemory);
     };
     write_text(alloc, &text, out)
@@ -212,9 +216,11 @@ fn play_line<R: Rng + Drop, K: Sink>(
     alloc: Global,
     project: &Project,
     run: &mut Run<R>,
+    writer: &FrameWriter<'_>,
     line: Line,
     out: &mut K,
 ) -> Result<(), Status>
+    requires writer { records_of writer.now ≡ (program_of project.now).records }
     requires fits { IsRunOf project.now run.old }
     requires forward { IsForward run.old.state.devices.clock line }
     ensures fits { OnOk result (IsRunOf project.now run.new) }
@@ -227,7 +233,7 @@ fn play_line<R: Rng + Drop, K: Sink>(
     ensures writes { LineWrites (K.calls out.old) (K.calls out.new) (line_writes (program_of project.now) line (after (program_of project.now) line (world_of R.stream project.now run.old))) result }
 {
     match budget_of(&line) {
-        Some(budget) => play_frame(alloc, project, run, budget, out),
+        Some(budget) => play_frame(alloc, project, run, writer, budget, out),
         None => play_event(alloc, project, run, line, out),
     }
 }
@@ -247,9 +253,11 @@ fn play_from<R: Rng + Drop, K: Sink>(
     alloc: Global,
     project: &Project,
     run: &mut Run<R>,
+    writer: &FrameWriter<'_>,
     script: &[u8],
     out: &mut K,
 ) -> Status
+    requires writer { records_of writer.now ≡ (program_of project.now).records }
     requires fits { IsRunOf project.now run.old }
     requires few { length script.now ≤ script_limit }
     ensures cause { PlayedTo (ran (machine.played (program_of project.now) 1 run.old.state.devices.clock (world_of R.stream project.now run.old) (lines_of script.now)).ending) (Rose (K.faults out.old) (K.faults out.new)) result }
@@ -267,7 +275,7 @@ fn play_from<R: Rng + Drop, K: Sink>(
         let Some(line) = next else {
             return Status::Done;
         };
-        match play_line(alloc, project, run, line, out) {
+        match play_line(alloc, project, run, writer, line, out) {
             Ok(()) => {}
             Err(status) => return status,
         }
@@ -282,8 +290,7 @@ pub(crate) fn play_lines<R: Rng + Drop, K: Sink>(
     script: &[u8],
     out: &mut K,
 ) -> Status
-    requires few { length script.now ≤ script_limit }
-    requires dressed { AreDressed project.now }
+    requires { length script.now ≤ script_limit }
     ensures cause { PlayedTo (ran (output_of (program_of project.now) (seen_words R.stream words) script.now).ending) (Rose (K.faults out.old) (K.faults out.new)) result }
     ensures bytes { Wrote (K.written out.old) (K.written out.new) (output_of (program_of project.now) (seen_words R.stream words) script.now).writes result }
     ensures faults { K.faults out.old ≤ K.faults out.new }
@@ -293,5 +300,8 @@ pub(crate) fn play_lines<R: Rng + Drop, K: Sink>(
     let Ok(mut run) = Run::open(alloc, project, words) else {
         return Status::NoMemory;
     };
-    play_from(alloc, project, &mut run, script, out)
+    let Ok(writer) = FrameWriter::new(alloc, project.records()) else {
+        return Status::NoMemory;
+    };
+    play_from(alloc, project, &mut run, &writer, script, out)
 }

@@ -1,11 +1,7 @@
 use Rattle.project_check.specs.Loaded.{program_of}
 use Rattle.player.specs.Promise.{Loads}
 use Rattle.player.proofs.Calls.{refused_load, project_cause}
-use Rattle.player.proofs.Dressed.{dressed}
 use Rattle.player.proofs.fetching.load_project.Goals as goal
 
-pub returns-in-Err-clause-loaded : goal.returns-in-Err-clause-loaded
-returns-in-Err-clause-loaded c = refused_load (Loads c.args.bytes.now) program_of c.in-Err.refusal _ c.refused.ensures (project_cause c.args.bytes.now c.in-Err.refusal c.in-Err.ensures)
-
-pub returns-in-Ok-clause-dressed : goal.returns-in-Ok-clause-dressed
-returns-in-Ok-clause-dressed c = dressed c.args.bytes.now c.in-Ok.project c.requires c.in-Ok.ensures
+pub returns-in-Err : goal.returns-in-Err
+returns-in-Err c = refused_load (Loads c.args.bytes.now) program_of c.in-Err.refusal _ c.refused.ensures (project_cause c.args.bytes.now c.in-Err.refusal c.in-Err.ensures)

@@ -7,12 +7,12 @@ use Rattle.player.proofs.lines.text_of_frame.Goals as goal
 
 pub returns : goal.returns
 returns g c =
-    IfOk-weaker c.frame_text.result _ _
-    (λ text h. h (program_of c.args.project.now) (world_of g.R.Rng.stream c.args.project.now c.args.run.now) (sym c.records.ensures.records) (record {
+    IfOk-weaker c.text.result _ _
+    (λ text h. h (program_of c.args.project.now) (world_of g.R.Rng.stream c.args.project.now c.args.run.now) (sym c.requires) (record {
       frame = sym c.frame_number.ensures;
       words = sym (c.drawn.ensures.value ∙ ap drawn_of c.words.ensures);
       targets = sym c.targets.ensures;
       variables = sym c.variables.ensures;
       devices = sym c.devices.ensures;
     }))
-    c.frame_text.ensures
+    c.text.ensures

@@ -21,7 +21,7 @@ returns-in-Err-load_project-clause-exact g c =
     let failed = Rose (g.H.Shelf.fetch_faults c.args.shelf.now form.project) (g.H.Shelf.fetch_faults c.fetch.new.shelf form.project) in
     let wanted = Rose (g.H.Shelf.wants c.args.shelf.now) (g.H.Shelf.wants c.fetch.new.shelf) in
     at_load Loads (after_load form) (λ (o : Outcome). AnswerCause failed wanted o.ending c.in-Err-load_project.status) held form.project c.deref.result.now project
-    (λ files loading b. refused_cause (Loads c.deref.result.now) program_of (project_reading c.deref.result.now) failed wanted c.in-Err-load_project.status (after_load form files) (loaded_fetched form files) c.in-Err-load_project.ensures.loaded loading b)
+    (λ files loading b. refused_cause (Loads c.deref.result.now) program_of (project_reading c.deref.result.now) failed wanted c.in-Err-load_project.status (after_load form files) (loaded_fetched form files) c.in-Err-load_project.ensures loading b)
 
 -- the script is not fetched
 
@@ -35,7 +35,7 @@ returns-in-Err-fetch-clause-exact g c =
     let script_failed = Rose (g.H.Shelf.fetch_faults c.fetch.new.shelf form.script) (g.H.Shelf.fetch_faults c.fetch-2.new.shelf form.script) in
     let script_wanted = Rose (g.H.Shelf.wants c.fetch.new.shelf) (g.H.Shelf.wants c.fetch-2.new.shelf) in
     let answer = subst (λ h. Fetched h form.script which.Script script_limit script_failed script_wanted {A = Vec ℕ Global} (λ v. v.items) (Err c.in-Err-fetch.status)) c.in-Ok.ensures.held c.in-Err-fetch.ensures.answer in
-    at_accepted Loads (after_load form) (λ (o : Outcome). AnswerCause failed wanted o.ending c.in-Err-fetch.status) held form.project c.deref.result.now (program_of c.in-Ok-load_project.project) (project_reading c.deref.result.now) project c.in-Ok-load_project.ensures.loaded
+    at_accepted Loads (after_load form) (λ (o : Outcome). AnswerCause failed wanted o.ending c.in-Err-fetch.status) held form.project c.deref.result.now (program_of c.in-Ok-load_project.project) (project_reading c.deref.result.now) project c.in-Ok-load_project.ensures
     (script_causes (Vec ℕ Global) (λ v. v.items) held form (program_of c.in-Ok-load_project.project) failed wanted script_failed script_wanted c.in-Err-fetch.status answer)
 
 pub returns-in-Err-fetch-clause-bytes : goal.returns-in-Err-fetch-clause-bytes
@@ -70,7 +70,7 @@ returns-clause-exact g c =
     let wanted = Rose (g.H.Shelf.wants c.args.shelf.now) (g.H.Shelf.wants c.fetch-2.new.shelf) in
     let P : Outcome → Type 0 = λ o. AnswerCause failed wanted o.ending c.play_lines.result in
     let cause = subst (λ ws. PlayedTo (ran (output_of p ws c.deref-2.result.now).ending) (Rose (g.K.Sink.faults c.args.out.now) (g.K.Sink.faults c.play_lines.new.out)) c.play_lines.result) words c.play_lines.ensures.cause in
-    at_accepted Loads (after_load form) P held form.project c.deref.result.now p (project_reading c.deref.result.now) project c.in-Ok-load_project.ensures.loaded
+    at_accepted Loads (after_load form) P held form.project c.deref.result.now p (project_reading c.deref.result.now) project c.in-Ok-load_project.ensures
     (at_end P held form c.deref-2.result.now p script (played_cause (ran (output_of p (words_of c.args.seed) c.deref-2.result.now).ending) failed wanted (Rose (g.K.Sink.faults c.args.out.now) (g.K.Sink.faults c.play_lines.new.out)) c.play_lines.result (tt {0}) cause))
 
 pub returns-clause-bytes : goal.returns-clause-bytes
@@ -83,7 +83,7 @@ returns-clause-bytes g c =
     let words = seeded_words c.args.seed _ _ c.pcg.ensures.drawn c.pcg.ensures.stream in
     let P : Outcome → Type 0 = λ o. Wrote (g.K.Sink.written c.args.out.now) (g.K.Sink.written c.play_lines.new.out) o.texts c.play_lines.result in
     let bytes = subst (λ ws. Wrote (g.K.Sink.written c.args.out.now) (g.K.Sink.written c.play_lines.new.out) (output_of p ws c.deref-2.result.now).writes c.play_lines.result) words c.play_lines.ensures.bytes in
-    at_accepted Loads (after_load form) P held form.project c.deref.result.now p (project_reading c.deref.result.now) project c.in-Ok-load_project.ensures.loaded
+    at_accepted Loads (after_load form) P held form.project c.deref.result.now p (project_reading c.deref.result.now) project c.in-Ok-load_project.ensures
     (at_end P held form c.deref-2.result.now p script bytes)
 
 pub returns-clause-writes : goal.returns-clause-writes
@@ -96,7 +96,7 @@ returns-clause-writes g c =
     let words = seeded_words c.args.seed _ _ c.pcg.ensures.drawn c.pcg.ensures.stream in
     let P : Outcome → Type 0 = λ o. Writes (g.K.Sink.calls c.args.out.now) (g.K.Sink.calls c.play_lines.new.out) o.texts c.play_lines.result in
     let writes = subst (λ ws. Writes (g.K.Sink.calls c.args.out.now) (g.K.Sink.calls c.play_lines.new.out) (output_of p ws c.deref-2.result.now).writes c.play_lines.result) words c.play_lines.ensures.writes in
-    at_accepted Loads (after_load form) P held form.project c.deref.result.now p (project_reading c.deref.result.now) project c.in-Ok-load_project.ensures.loaded
+    at_accepted Loads (after_load form) P held form.project c.deref.result.now p (project_reading c.deref.result.now) project c.in-Ok-load_project.ensures
     (at_end P held form c.deref-2.result.now p script writes)
 
 pub returns-clause-fetches : goal.returns-clause-fetches
