@@ -1,0 +1,4 @@
+pub mod Lists
+mod Whole
+pub mod Texts
+pub mod WhatIsLeft

@@ -1,0 +1,23 @@
+-- Laws of the saved run, as statements that public functions with empty bodies prove.
+use Rattle.std.specs.Prelude.{◌≡◌, ℕ, false, List}
+use Rattle.std.specs.List.{All}
+use Rattle.script_machine.specs.Threads.{is_done}
+use Rattle.script_machine.specs.World.{World, seen_world}
+use Rattle.project_file.specs.Trees.{Sheet}
+use Rattle.thread_frames.specs.Fit.{Fits}
+use Rattle.thread_frames.specs.Reading as reading
+use Rattle.thread_frames.specs.Threads.{Thread}
+use Rattle.saved_text.specs.Saved.{snapshot, saved}
+use Rattle.saved_text.specs.Tasks.{task}
+use Rattle.saved_text.specs.Threads.{thread}
+
+-- a thread whose levels fit the blocks of its target, and which is not done
+pub record IsKept (sheets : ℕ → Sheet) (t : Thread) : Type 0 where
+  pub fits : Fits sheets t
+  pub alive : is_done t.status ≡ false
+
+-- what the levels of its threads have still to do is saved as the levels are
+abbrev pub SavesWhatIsLeft : Type 0
+SavesWhatIsLeft =
+    (sheets : ℕ → Sheet) (digest : List ℕ) (seed : ℕ) (w : World Thread) → All (IsKept sheets) w.threads.list
+    → saved task (snapshot digest seed (seen_world (reading.task sheets) w)) ≡ saved thread (snapshot digest seed w)

@@ -1,0 +1,39 @@
+//! Numbers of targets, blocks, instances and threads.
+
+ghost use Rattle.saved_text.specs.Rows.{whole};
+
+use crate::rows::Saved;
+use script_machine::{BlockId, InstanceId, Serial, TargetId};
+use serde::Serializer;
+
+impl Saved for TargetId {
+    ghost as_data = { whole };
+
+    fn send<S: Serializer>(&self, out: &mut S) -> Result<(), S::Error> {
+        self.0.send(out)
+    }
+}
+
+impl Saved for BlockId {
+    ghost as_data = { whole };
+
+    fn send<S: Serializer>(&self, out: &mut S) -> Result<(), S::Error> {
+        self.0.send(out)
+    }
+}
+
+impl Saved for InstanceId {
+    ghost as_data = { whole };
+
+    fn send<S: Serializer>(&self, out: &mut S) -> Result<(), S::Error> {
+        self.0.send(out)
+    }
+}
+
+impl Saved for Serial {
+    ghost as_data = { whole };
+
+    fn send<S: Serializer>(&self, out: &mut S) -> Result<(), S::Error> {
+        self.0.send(out)
+    }
+}

@@ -1,0 +1,8 @@
+//! Laws of the saved run, each the contract of a function with an empty body.
+
+ghost use Rattle.saved_text.specs.Laws.{SavesWhatIsLeft};
+
+/// A run whose threads keep levels has the saved text of its world, whose threads keep what they have still to do.
+pub fn a_saved_run_is_its_world()
+    ensures { SavesWhatIsLeft }
+{}

@@ -1,0 +1,125 @@
+//! Threads with their levels.
+
+ghost use Rattle.std.specs.Prelude.{◌≡◌, OnOk};
+ghost use Rattle.serde_json.specs.Data.{string};
+ghost use Rattle.serde_json.specs.Events.{SendsValue};
+ghost use Rattle.saved_text.specs.Rows.{each};
+ghost use Rattle.saved_text.specs.Threads as saved;
+ghost use Rattle.thread_frames.specs.Reading.{params_in};
+
+use crate::contexts::send_context;
+use crate::rows::{Saved, send_member};
+use project_json::Text;
+use scratch_values::Value;
+use script_machine::{BlockId, InstanceId, Serial, Status, Which};
+use serde::Serializer;
+use thread_frames::{Level, Levels, Thread, Threads};
+
+impl Saved for Option<BlockId> {
+    ghost as_data = { saved.block };
+
+    fn send<S: Serializer>(&self, out: &mut S) -> Result<(), S::Error> {
+        match self {
+            Some(block) => block.send(out),
+            None => out.unit(),
+        }
+    }
+}
+
+// The parameters with which the block of a level called, and none where it has not.
+fn params_of(level: &Level) -> &[(Text, Value)]
+    ensures { result.now ≡ params_in level.now }
+{
+    match &level.params {
+        Some(params) => params.get().pairs(),
+        None => &[],
+    }
+}
+
+impl Saved for Level {
+    ghost as_data = { saved.level };
+
+    fn send<S: Serializer>(&self, out: &mut S) -> Result<(), S::Error> {
+        out.begin_seq(Some(2))?;
+        self.block.send(out)?;
+        send_context(self.is_loop, params_of(self), &self.context, out)?;
+        out.end_seq()
+    }
+}
+
+impl Saved for Levels {
+    ghost as_data = { saved.levels };
+
+    fn send<S: Serializer>(&self, out: &mut S) -> Result<(), S::Error> {
+        let depth = self.depth();
+        out.begin_seq(Some(depth))?;
+        for place in 0..depth {
+            let level = self.get(depth - 1 - place).unwrap();
+            level.send(out)?;
+        }
+        out.end_seq()
+    }
+}
+
+impl Saved for Status {
+    ghost as_data = { λ s. string (saved.status_name s) };
+
+    fn send<S: Serializer>(&self, out: &mut S) -> Result<(), S::Error> {
+        match self {
+            Status::Running => out.str("run"),
+            Status::YieldTick => out.str("tick"),
+            Status::PromiseWait => out.str("wait"),
+            Status::Done => out.str("done"),
+        }
+    }
+}
+
+// Sends a thread by its parts.
+#[tactic(auto, unfolding(crate::specs::Threads::thread_of))]
+fn send_thread<S: Serializer>(
+    hat: BlockId,
+    levels: &Levels,
+    number: Serial,
+    of: InstanceId,
+    status: Status,
+    out: &mut S,
+) -> Result<(), S::Error>
+    ensures { OnOk result (SendsValue (saved.thread_of hat number of status (saved.levels levels.now)) (S.written out.old) (S.written out.new)) }
+{
+    out.begin_map(Some(5))?;
+    send_member("hat", &hat, out)?;
+    send_member("levels", levels, out)?;
+    send_member("number", &number, out)?;
+    send_member("of", &of, out)?;
+    send_member("status", &status, out)?;
+    out.end_map()
+}
+
+impl Saved for Thread {
+    ghost as_data = { saved.thread };
+
+    fn send<S: Serializer>(&self, out: &mut S) -> Result<(), S::Error> {
+        send_thread(
+            self.hat(),
+            self.levels(),
+            self.serial(),
+            self.of(),
+            self.status(),
+            out,
+        )
+    }
+}
+
+impl Saved for Threads {
+    ghost as_data = { λ ts. each saved.thread ts.list };
+
+    fn send<S: Serializer>(&self, out: &mut S) -> Result<(), S::Error> {
+        let count = self.len();
+        out.begin_seq(Some(count as usize))?;
+        for slot in 0..count {
+            let thread = self.thread(Which::Slot(slot)).unwrap();
+            thread.send(out)?;
+        }
+        out.end_seq()
+    }
+}

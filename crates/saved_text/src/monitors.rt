@@ -1,0 +1,46 @@
+//! Monitors that blocks added.
+
+ghost use Rattle.std.specs.Prelude.{OnOk, ◌∷◌, []};
+ghost use Rattle.serde_json.specs.Data.{boolean, string};
+ghost use Rattle.serde_json.specs.Events.{SendsValue};
+ghost use Rattle.saved_text.specs.Monitors.{made};
+ghost use Rattle.saved_text.specs.Rows.{whole, row};
+
+use crate::rows::Saved;
+use script_machine::{Made, Shown, TargetId};
+use serde::Serializer;
+
+// Sends what is shown, by the name of its kind.
+fn send_shown<S: Serializer>(
+    kind: &str,
+    target: TargetId,
+    index: u32,
+    visible: bool,
+    out: &mut S,
+) -> Result<(), S::Error>
+    ensures { OnOk result (SendsValue (row (string kind.now ∷ whole target ∷ whole index ∷ boolean visible ∷ [])) (S.written out.old) (S.written out.new)) }
+{
+    out.begin_seq(Some(4))?;
+    out.str(kind)?;
+    out.u64(u64::from(target.0))?;
+    out.u64(u64::from(index))?;
+    out.bool(visible)?;
+    out.end_seq()
+}
+
+impl Saved for Made {
+    ghost as_data = { made };
+
+    fn send<S: Serializer>(&self, out: &mut S) -> Result<(), S::Error> {
+        match self.what {
+            Shown::Variable(target, index) => send_shown(
+                "variable",
+                target,
+                index,
+                self.visible,
+                out,
+            ),
+            Shown::List(target, index) => send_shown("list", target, index, self.visible, out),
+        }
+    }
+}

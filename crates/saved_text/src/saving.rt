@@ -1,0 +1,64 @@
+//! Saving a run.
+
+ghost use Rattle.std.specs.Prelude.{◌≡◌, IfOk, IfErr};
+ghost use Rattle.saved_text.specs.declared.saving.SaveStop.TheVariants.{NoMemory};
+ghost use Rattle.saved_text.specs.Saved.{saved_text};
+ghost use Rattle.saved_text.specs.Saving.{IsSaved, longest};
+ghost use Rattle.saved_text.specs.Seen.{seen};
+ghost use Rattle.saved_text.specs.Threads.{thread};
+
+use crate::run::{SavedRun, Written};
+use std::alloc::Global;
+use thiserror::Error;
+
+/// The most bytes of a saved run: 128 MiB.
+pub const LONGEST: u64 = 134_217_728;
+
+/// Why a run was not saved.
+#[derive(Clone, Copy, PartialEq, Eq, Debug, Drop, Error)]
+pub enum SaveStop {
+    /// Its text is longer than 128 MiB.
+    #[error("the saved run has {length} bytes")]
+    TooLarge { length: u64 },
+    /// Memory was wanting.
+    #[error("out of memory")]
+    NoMemory,
+}
+
+// The text of a run, of any length.
+fn text_of(alloc: Global, run: &SavedRun<'_>) -> Result<Vec<u8>, SaveStop>
+    ensures text { IfOk result (λ text. text.items ≡ saved_text thread (seen run.now)) }
+    ensures err { IfErr result (λ stop. stop ≡ NoMemory) }
+{
+    let Ok(digits) = hex::encode(alloc, &run.digest) else {
+        return Err(SaveStop::NoMemory);
+    };
+    let written = Written {
+        run,
+        digits: digits.as_str(),
+    };
+    let Ok(text) = serde_json::to_vec(alloc, &written) else {
+        return Err(SaveStop::NoMemory);
+    };
+    Ok(text)
+}
+
+// A text, where it is no longer than the limit.
+pub(crate) fn within(limit: u64, text: Vec<u8>) -> Result<Vec<u8>, SaveStop>
+    ensures { IsSaved limit text.items result }
+{
+    let length = text.len() as u64;
+    if length > limit {
+        return Err(SaveStop::TooLarge { length });
+    }
+    Ok(text)
+}
+
+/// The text of a saved run, version 1 (docs/formats.md, section 5): compact JSON, members in the order of their names.
+/// `TooLarge` exactly where it is longer than 128 MiB; the only other error is want of memory.
+pub fn save(alloc: Global, run: &SavedRun<'_>) -> Result<Vec<u8>, SaveStop>
+    ensures { IsSaved longest (saved_text thread (seen run.now)) result }
+{
+    let text = text_of(alloc, run)?;
+    within(LONGEST, text)
+}
