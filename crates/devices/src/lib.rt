@@ -2,10 +2,12 @@
 #![tactic(auto)]
 
 mod keys;
+mod parts;
 mod questions;
 mod state;
 mod timers;
 
+pub use parts::DeviceParts;
 pub use script_machine::{BubbleTimer, BubbleTimers, Key, Keys, Question, Questions};
 pub use state::Devices;
 pub use timers::seconds;

@@ -10,7 +10,9 @@ ghost use Rattle.script_machine.specs.Line.{with_key, without_key};
 ghost use Rattle.script_machine.specs.Frame.{is_empty as is_nil, next_due};
 ghost use Rattle.devices.specs.First.{first_devices};
 ghost use Rattle.devices.specs.Lists.{without_due};
+ghost use Rattle.devices.specs.Parts.{devices_of, HasUsage};
 
+use crate::parts::DeviceParts;
 use crate::timers::{self, seconds};
 use crate::{keys, questions};
 use project_json::Text;
@@ -86,6 +88,28 @@ impl Devices {
             turbo: false,
             usage: 1,
         })
+    }
+
+    /// The devices that hold just these parts, as a saved run that is read again needs them. The number of the next bubble
+    /// update is below 2^62, as every number that a run gives.
+    pub fn rebuild(alloc: Global, parts: DeviceParts) -> Devices
+        requires { HasUsage parts }
+        ensures { result ≡ devices_of parts }
+    {
+        Devices {
+            alloc,
+            answer: parts.answer,
+            clock: parts.clock,
+            timer: parts.timer,
+            keys: parts.keys,
+            mouse_x: parts.mouse_x,
+            mouse_y: parts.mouse_y,
+            button: parts.button,
+            questions: parts.questions,
+            timers: parts.timers,
+            turbo: parts.turbo,
+            usage: parts.usage,
+        }
     }
 
     /// The clock, in milliseconds.

@@ -1,6 +1,8 @@
 //! Each public function once: keys, questions, timers and the clock.
 
-use crate::{BubbleTimer, Devices, Key, Question, seconds};
+use crate::{
+    BubbleTimer, BubbleTimers, DeviceParts, Devices, Key, Keys, Question, Questions, seconds,
+};
 use scratch_number::{Num, of_whole};
 use scratch_values::BoundText;
 use script_machine::{InstanceId, Serial};
@@ -120,4 +122,30 @@ fn bubble_updates_are_numbered_from_1(rt: HostRuntime) {
     assert_eq!(rt; devices.next_usage(), Ok(1));
     assert_eq!(rt; devices.usage(), 2);
     assert_eq!(rt; devices.clock(), 0);
+}
+
+#[test]
+fn devices_are_made_again_from_their_parts(rt: HostRuntime) {
+    let mut keys = Keys::new(rt.alloc());
+    keys.push(Key::Space).expect(&rt, "memory");
+    let parts = DeviceParts {
+        answer: text(&rt, "7"),
+        clock: 900,
+        timer: 250,
+        keys,
+        mouse_x: -240,
+        mouse_y: 180,
+        button: true,
+        questions: Questions::new(rt.alloc()),
+        timers: BubbleTimers::new(rt.alloc()),
+        turbo: true,
+        usage: 5,
+    };
+    let devices = Devices::rebuild(rt.alloc(), parts);
+    assert_eq!(rt; devices.last_answer().as_str(), "7");
+    assert_eq!(rt; devices.clock(), 900);
+    assert_eq!(rt; devices.timer_start(), 250);
+    assert_eq!(rt; devices.keys().len(), 1);
+    assert_eq!(rt; devices.mouse_x(), -240);
+    assert_eq!(rt; devices.usage(), 5);
 }

@@ -1,5 +1,5 @@
--- What is true of the fields that keep the variables and lists of a run, and what a change of one store leaves; private
--- functions alone cite it.
+-- What is true of the fields that keep the variables and lists of a run, and what a change of one store leaves; but for
+-- short lists private functions alone cite it.
 use Rattle.std.specs.Prelude.{◌≡◌, ◌≤◌, List, [], length}
 use Rattle.std.specs.List.{All}
 use Rattle.scratch_values.specs.Casts.{zero_number}

@@ -2,4 +2,5 @@ pub mod Distinct
 pub mod First
 pub mod Held
 pub mod Kept
+pub mod Parts
 pub mod Shown

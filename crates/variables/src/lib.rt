@@ -4,9 +4,11 @@
 mod first;
 mod items;
 mod monitors;
+mod parts;
 mod state;
 mod store;
 
+pub use parts::VariableParts;
 pub use script_machine::{Made, MadeList, Shown, Store, Stores};
 pub use state::{Truths, Variables};
 

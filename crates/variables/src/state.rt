@@ -13,12 +13,14 @@ ghost use Rattle.target_records.specs.Records.{records_in};
 ghost use Rattle.variables.specs.First.{first_variables};
 ghost use Rattle.variables.specs.Held.{HasStore, HasNoStore, HasValue, HasItems, HasSameShape};
 ghost use Rattle.variables.specs.Kept.{HasShortLists};
+ghost use Rattle.variables.specs.Parts.{variables_of, AreStores};
 
+use crate::parts::VariableParts;
 use crate::{first, monitors, store};
 use lists::ListOf;
 use scratch_number::{Num, of_whole};
 use scratch_values::{Value, Values};
-use script_machine::{InstanceId, MadeList, Shown, Store};
+use script_machine::{InstanceId, MadeList, Shown, Store, Stores};
 use std::alloc::{AllocError, Global};
 use std::marker::Model;
 use target_records::Records;
@@ -60,14 +62,36 @@ impl Variables {
     {
         let stores = first::stores(alloc, records.all_targets())?;
         let file_monitors = first::truths(alloc, records.monitors())?;
-        Ok(Variables {
-            alloc,
-            stores,
+        let parts = VariableParts {
+            stores: Stores::from_vec(stores),
             file_monitors,
             made: MadeList::new(alloc),
+        };
+        Ok(Variables::rebuild(alloc, parts))
+    }
+
+    /// The variables that hold just these parts, as a saved run that is read again needs them. Each instance has one store,
+    /// and no list has more than 200,000 items.
+    pub fn rebuild(alloc: Global, parts: VariableParts) -> Variables
+        requires { AreStores parts.stores }
+        ensures { result ≡ variables_of parts }
+    {
+        Variables {
+            alloc,
+            stores: parts.stores.into_vec(),
+            file_monitors: parts.file_monitors,
+            made: parts.made,
             zero: Value::Number(of_whole(0)),
             nothing: Values::new(alloc),
-        })
+        }
+    }
+
+    /// The stores of all instances, each once, in the order of making.
+    pub fn stores(&self) -> &[Store]
+        ensures stores { result.now ≡ self.now.stores }
+        ensures kept { AreStores result.now }
+    {
+        self.stores.as_slice()
     }
 
     // The place of the store of an instance: first that of its number is tried.

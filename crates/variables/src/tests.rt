@@ -1,9 +1,9 @@
 //! Each public function once, on a small project.
 
-use crate::{Shown, Variables};
+use crate::{MadeList, Shown, Store, Stores, Truths, VariableParts, Variables};
 use project_json::read as read_json;
 use scratch_number::{Num, of_whole};
-use scratch_values::{Value, to_number};
+use scratch_values::{Value, ValueLists, Values, to_number};
 use script_machine::{InstanceId, TargetId};
 use std::alloc::{AllocError, Global};
 use std::process::Abort;
@@ -121,4 +121,29 @@ fn monitors_are_hidden_and_added(rt: HostRuntime) {
         .show(&records, Shown::List(TargetId(0), 0), true)
         .expect(&rt, "memory");
     assert_eq!(rt; variables.made().len(), 1);
+}
+
+#[test]
+fn variables_are_made_again_from_their_parts(rt: HostRuntime) {
+    let mut values = Values::new(rt.alloc());
+    values
+        .push(Value::Number(of_whole(3)))
+        .expect(&rt, "memory");
+    let lists = ValueLists::new(rt.alloc());
+    let mut stores = Stores::new(rt.alloc());
+    stores
+        .push(Store {
+            of: CLONE,
+            values,
+            lists,
+        })
+        .expect(&rt, "memory");
+    let parts = VariableParts {
+        stores,
+        file_monitors: Truths::new(rt.alloc()),
+        made: MadeList::new(rt.alloc()),
+    };
+    let variables = Variables::rebuild(rt.alloc(), parts);
+    assert_eq!(rt; number_of(&variables, CLONE), of_whole(3));
+    assert_eq!(rt; variables.stores().len(), 1);
 }

@@ -1,14 +1,12 @@
-use Rattle.std.proofs.Common.{rules, ◌≡◌, List, [], ◌∷◌, Bool, map, refl, sym, subst, ap, ap₂, ◌∙◌}
+use Rattle.std.proofs.Common.{◌≡◌, List, [], ◌∷◌, Bool, map, refl, sym, subst, ap, ap₂, ◌∙◌}
 use Rattle.script_machine.specs.declared.variables.Store.{Store}
 use Rattle.script_machine.specs.declared.variables.Made.{Made}
 use Rattle.script_machine.specs.Program.{Monitor}
 use Rattle.script_machine.specs.Stores.{Variables}
 use Rattle.target_records.specs.declared.monitors.MonitorRecord.{MonitorRecord}
 use Rattle.target_records.specs.Records.{monitor_in}
-use Rattle.variables.specs.Distinct.{numbers, IsDistinct}
-use Rattle.std.specs.List.{All}
-use Rattle.variables.specs.Kept.{HasShortLists}
 use Rattle.variables.specs.First.{stores_of}
+use Rattle.variables.specs.Parts.{AreStores}
 use Rattle.variables.proofs.Apart.{IsDistinct-first}
 use Rattle.variables.proofs.Short.{short-first}
 use Rattle.variables.proofs.state.Variables.open.Goals as goal
@@ -17,20 +15,16 @@ visible-seen : (ms : List MonitorRecord) → map (λ m. m.visible) ms ≡ map (�
 visible-seen [] = refl
 visible-seen (m ∷ ms) = ap (λ (l : List Bool). m.visible ∷ l) (visible-seen ms)
 
-pub invariant_of-result : goal.invariant_of-result
-invariant_of-result c =
-    let P : List Store → Type 0 = λ l. IsDistinct (numbers l) in
-    let Q : List Store → Type 0 = All HasShortLists in
-    record {
-      distinct = subst P (sym c.in_ok-stores.ensures) (IsDistinct-first c.all_targets.result.now);
-      short = subst Q (sym c.in_ok-stores.ensures) (short-first c.all_targets.result.now c.all_targets.ensures.short);
-      zero_is = search rules;
-      nothing_is = search rules;
-    }
+pub rebuild-requires : goal.rebuild-requires
+rebuild-requires c =
+    let P : List Store → Type 0 = λ l. AreStores l in
+    subst P (sym (c.from_vec.ensures ∙ c.in_ok-stores.ensures))
+    (record { distinct = IsDistinct-first c.all_targets.result.now; short = short-first c.all_targets.result.now c.all_targets.ensures.short })
 
 pub returns : goal.returns
 returns c =
-    ap (λ (ms : List Made). let v : Variables = record { stores = c.in_ok-stores.stores.items; file_monitors = c.in_ok-file_monitors.file_monitors; made = ms } in v) c.new.ensures
+    c.rebuild.ensures
+    ∙ ap (λ (ms : List Made). let v : Variables = record { stores = c.from_vec.result; file_monitors = c.in_ok-file_monitors.file_monitors; made = ms } in v) c.new.ensures
     ∙ ap₂ (λ (ss : List Store) (ts : List Bool). let v : Variables = record { stores = ss; file_monitors = ts; made = [] } in v)
-    (c.in_ok-stores.ensures ∙ ap stores_of c.all_targets.ensures.all)
+    (c.from_vec.ensures ∙ c.in_ok-stores.ensures ∙ ap stores_of c.all_targets.ensures.all)
     (c.in_ok-file_monitors.ensures ∙ visible-seen c.monitors.result.now ∙ ap (λ (l : List Monitor). map (λ m. m.visible) l) c.monitors.ensures)
