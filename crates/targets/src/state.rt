@@ -62,7 +62,13 @@ impl Targets {
     {
         // There are fewer than 2^32 targets.
         let _count = records.targets();
-        let instances = first::instances(alloc, records.all_targets())?;
+        Targets::rebuild(alloc, first::instances(alloc, records.all_targets())?)
+    }
+
+    /// These instances, in this executable order. The only error is want of memory, and then nothing is kept.
+    pub fn rebuild(alloc: Global, instances: Vec<Instance>) -> Result<Targets, AllocError>
+        ensures { IfOk result (λ targets. targets ≡ instances.items) }
+    {
         let order = Order::open(alloc, first::numbers_of(alloc, instances.as_slice())?)?;
         Ok(Targets {
             alloc,

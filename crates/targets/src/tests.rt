@@ -1,6 +1,6 @@
 //! Each public function once, on a stage and two sprites.
 
-use crate::{Effect, Place, Say, Style, Targets};
+use crate::{Bubble, Edges, Effect, Effects, Instance, Place, Say, Style, TargetId, Targets};
 use project_json::read as read_json;
 use scratch_number::{Num, of_whole};
 use script_machine::{BlockId, BubbleText, InstanceId};
@@ -28,6 +28,29 @@ fn opened(rt: &(impl Abort + AllocGlobal)) -> Targets {
     Targets::open(rt.alloc(), &records(rt)).expect(rt, "memory")
 }
 
+// An instance of Ann that stands `x` units to the right.
+fn ann_at(rt: &(impl Abort + AllocGlobal), number: InstanceId, x: i64) -> Instance {
+    let bubble = Bubble {
+        kind: Say::Think,
+        text: BubbleText::new(rt.alloc()),
+        usage: 2,
+    };
+    Instance {
+        number,
+        of: TargetId(1),
+        x: of_whole(x),
+        y: of_whole(0),
+        direction: of_whole(90),
+        size: of_whole(100),
+        visible: true,
+        costume: 0,
+        style: Style::AllAround,
+        effects: Effects::none(),
+        bubble,
+        edges: Edges::new(rt.alloc()),
+    }
+}
+
 fn is_order(targets: &Targets, order: &[InstanceId]) -> bool {
     targets.order().as_slice() == order && targets.instances().len() == order.len()
 }
@@ -48,6 +71,19 @@ fn the_stage_is_first_and_sprites_follow_by_layer(rt: HostRuntime) {
     assert!(rt; is_order(&targets, &[STAGE, BEN, ANN]));
     assert_eq!(rt; targets.sprite_named(&records, "Ben"), Some(BEN));
     assert_eq!(rt; targets.sprite_named(&records, "Stage"), None);
+}
+
+#[test]
+fn instances_are_put_in_their_order_again(rt: HostRuntime) {
+    let mut instances = Vec::new(rt.alloc());
+    instances.push(ann_at(&rt, CLONE, 7)).expect(&rt, "memory");
+    instances.push(ann_at(&rt, ANN, 5)).expect(&rt, "memory");
+    let targets = Targets::rebuild(rt.alloc(), instances).expect(&rt, "memory");
+    assert!(rt; is_order(&targets, &[CLONE, ANN]));
+    assert!(rt; !targets.is_live(STAGE));
+    let clone = targets.get(CLONE).expect(&rt, "a live instance");
+    assert_eq!(rt; clone.of, TargetId(1));
+    assert_eq!(rt; clone.x, of_whole(7));
 }
 
 #[test]

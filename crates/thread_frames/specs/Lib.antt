@@ -6,5 +6,6 @@ pub mod Lending
 pub mod Counting
 pub mod Stops
 pub mod Restarting
+pub mod Rebuilding
 pub mod Stopping
 pub mod Indexing

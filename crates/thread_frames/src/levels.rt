@@ -1,6 +1,6 @@
 //! The levels of one thread.
 
-ghost use Rattle.std.specs.Prelude.{◌≡◌, [], ◌∷◌, length, nat_lt, slice_get, false, OnOk, OnErr};
+ghost use Rattle.std.specs.Prelude.{◌≡◌, [], ◌∷◌, length, reverse, nat_lt, slice_get, false, OnOk, OnErr};
 ghost use Rattle.std.specs.Option.{option_copied, option_map};
 ghost use Rattle.script_machine.specs.declared.threads.Context.TheVariants.{Fresh};
 ghost use Rattle.thread_frames.specs.Levels.{new_level, at_next, with_loop, with_context, with_params, on_top, without_top, top_context, near_params, from_call, unwound};
@@ -37,6 +37,14 @@ impl Levels {
         Levels {
             bottom_first: Vec::new(alloc),
         }
+    }
+
+    /// These levels, of which the bottom one is given first. It takes no memory.
+    #[inline]
+    pub fn from_vec(bottom_first: Vec<Level>) -> Levels
+        ensures { result ≡ reverse bottom_first.items }
+    {
+        Levels { bottom_first }
     }
 
     /// How many levels there are.

@@ -4,6 +4,7 @@
 mod hat_index;
 mod level;
 mod levels;
+mod parts;
 mod stops;
 mod table;
 mod thread;
@@ -11,6 +12,7 @@ mod threads;
 
 pub use level::Level;
 pub use levels::Levels;
+pub use parts::ThreadPart;
 pub use stops::PushStop;
 pub use thread::Thread;
 pub use threads::Threads;

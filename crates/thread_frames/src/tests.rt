@@ -9,6 +9,8 @@ use script_machine::{
 use std::process::Abort;
 use std::test::Fail;
 
+mod parts;
+
 const CAT: InstanceId = InstanceId(1);
 
 const DOG: InstanceId = InstanceId(7);

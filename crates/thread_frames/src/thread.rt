@@ -4,9 +4,11 @@ ghost use Rattle.std.specs.Prelude.{◌≡◌, IfOk, OnOk, OnErr};
 ghost use Rattle.std.specs.Borrow.{sem};
 ghost use Rattle.thread_frames.specs.Lending.{LendsLevels};
 ghost use Rattle.script_machine.specs.Threads.{is_done as is_done_by};
+ghost use Rattle.thread_frames.specs.Rebuilding.{thread_of};
 ghost use Rattle.thread_frames.specs.Threads.{new_thread, again, finish as finished, with_status};
 
 use crate::levels::Levels;
+use crate::parts::ThreadPart;
 use script_machine::{BlockId, InstanceId, Serial, Status, TargetId};
 use std::alloc::{AllocError, Global};
 use std::marker::Model;
@@ -60,6 +62,21 @@ impl Thread {
             status: Status::Running,
             levels,
         })
+    }
+
+    // The thread that has these parts.
+    #[inline]
+    pub(crate) fn from_part(part: ThreadPart) -> Thread
+        ensures { result ≡ thread_of part }
+    {
+        Thread {
+            serial: part.serial,
+            of: part.of,
+            target: part.target,
+            hat: part.hat,
+            status: part.status,
+            levels: part.levels,
+        }
     }
 
     /// The number of the thread.

@@ -1,6 +1,6 @@
 //! The threads of a run.
 
-ghost use Rattle.std.specs.Prelude.{◌≡◌, ℕ, ◌==◌, ◌+◌, ◌≤◌, [], ◌∷◌, length, nat_lt, true, false, Some, None, slice_get, position, find, OnOk, OnErr, IfOk};
+ghost use Rattle.std.specs.Prelude.{◌≡◌, ℕ, ◌==◌, ◌+◌, ◌≤◌, [], ◌∷◌, ◌++◌, length, nat_lt, true, false, Some, None, slice_get, position, find, OnOk, OnErr, IfOk};
 ghost use Rattle.std.specs.List.{list_any};
 ghost use Rattle.std.specs.Option.{option_copied, option_map};
 ghost use Rattle.script_machine.specs.declared.threads.Context.TheVariants.{Fresh};
@@ -229,12 +229,24 @@ impl Threads {
             Ok(thread) => thread,
             Err(_) => return Err(PushStop::NoMemory),
         };
-        let slot = self.table.list().len();
-        match self.table.append(thread) {
-            Ok(()) => {}
-            Err(_) => return Err(PushStop::NoMemory),
+        match self.add(thread) {
+            Ok(()) => Ok(()),
+            Err(_) => Err(PushStop::NoMemory),
         }
-        self.open_levels += 1;
+    }
+
+    // Appends a thread with its levels. With all that are open they are no more than 65,536. The only error is want of
+    // memory, and then nothing changes.
+    pub(crate) fn add(&mut self, thread: Thread) -> Result<(), AllocError>
+        requires { open_levels frames self.old + length thread.levels ≤ most_levels }
+        ensures ok { OnOk result (self.new ≡ record { list = self.old.list ++ thread ∷ []; detached = self.old.detached }) }
+        ensures err { OnErr result (self.new ≡ self.old) }
+    {
+        let (of, hat) = (thread.of(), thread.hat());
+        let depth = thread.levels().depth();
+        let slot = self.table.list().len();
+        self.table.append(thread)?;
+        self.open_levels += depth;
         self.index.append(of, hat, slot);
         Ok(())
     }
