@@ -1,8 +1,7 @@
 -- Blocks that choose where their thread goes keep nothing, and their rows change nothing.
-use Rattle.std.proofs.Common.{◌≡◌, ℕ, Bool, true, false, [], ◌∷◌, Option, Some, None, Err, refl, sym, ap, ◌∙◌, subst}
+use Rattle.std.proofs.Common.{◌≡◌, ℕ, Bool, true, false, [], ◌∷◌, Some, Err, refl, ap, ◌∙◌, subst}
 use Rattle.std.specs.Prelude.{◌||◌, ◌&&◌, codes, nat_lt, not, if◌then◌else◌}
 use Rattle.rand_core.specs.Stream.{Stream}
-use Rattle.opcode_table.specs.declared.kinds.Kind.{Kind}
 use Rattle.opcode_table.specs.declared.kinds.Kind.TheVariants.{Endless, Plain}
 use Rattle.opcode_table.specs.declared.kinds.Kind.TheVariants as kinds
 use Rattle.opcode_table.specs.declared.opcode.Opcode.{Opcode}
@@ -12,7 +11,7 @@ use Rattle.scratch_values.specs.Named.{Arguments}
 use Rattle.script_words.specs.declared.stops.CounterKind.{CounterKind}
 use Rattle.script_words.specs.declared.stops.Stop.{Stop}
 use Rattle.script_words.specs.declared.stops.Stop.TheVariants as stops
-use Rattle.script_machine.specs.Keeping.{top_fits, has_branches, under_fits}
+use Rattle.script_machine.specs.Keeping.{has_branches, under_fits}
 use Rattle.script_machine.specs.Laws.{is_own}
 use Rattle.script_machine.specs.ControlRows.{branch_if}
 use Rattle.script_machine.specs.Outcome.{Outcome, Goes, Full, TooLong, Spent, StopIs, most_levels, with_room}
@@ -20,9 +19,9 @@ use Rattle.script_machine.specs.Script.{Command}
 use Rattle.script_machine.specs.Step.{Applied, row}
 use Rattle.script_machine.specs.View.{truth_at}
 use Rattle.script_machine.specs.declared.threads.Context.{Context}
-use Rattle.script_machine.specs.declared.threads.Context.TheVariants.{Fresh, Repeat, Wait, Glide, Started, Asked, Spoken, Called}
+use Rattle.script_machine.specs.declared.threads.Context.TheVariants.{Fresh, Started}
 use Rattle.script_machine.specs.declared.threads.Control.{Control}
-use Rattle.script_machine.specs.declared.threads.Control.TheVariants.{Branch, Next}
+use Rattle.script_machine.specs.declared.threads.Control.TheVariants.{Branch}
 use Rattle.script_machine.specs.Places.{Places}
 use Rattle.script_machine.specs.Tasks.{Task}
 use Rattle.project_check.specs.declared.project.Project.{Project}
@@ -31,7 +30,7 @@ use Rattle.cached_blocks.specs.declared.block.CachedBlock.{CachedBlock}
 use Rattle.executions.specs.declared.state.State.{State}
 use Rattle.executions.specs.Choices.{chosen, KeepsNothing}
 use Rattle.executions.specs.Moves.{room_for}
-use Rattle.executions.specs.Rows.{RowGoes, Leaves, IsOf, row_on, with_tasks}
+use Rattle.executions.specs.Rows.{RowGoes, Leaves, with_tasks}
 
 pub plain_keeps : KeepsNothing Plain
 plain_keeps Fresh m h = refl

@@ -1,5 +1,5 @@
 -- A block whose kind keeps nothing, and a block of data, behind which the thread goes on.
-use Rattle.std.proofs.Common.{◌≡◌, ℕ, Bool, true, false, List, Option, Some, None, Result, Ok, Err, refl, sym, ap, ◌∙◌, subst}
+use Rattle.std.proofs.Common.{◌≡◌, ℕ, Bool, Some, Err, refl, sym, ap, ◌∙◌, subst}
 use Rattle.std.specs.Prelude.{slice_get}
 use Rattle.rand_core.specs.Stream.{Stream}
 use Rattle.script_words.specs.declared.stops.Stop.{Stop}
@@ -9,14 +9,14 @@ use Rattle.opcode_table.specs.declared.kinds.Kind.TheVariants.{Plain}
 use Rattle.opcode_table.specs.declared.opcode.Opcode.{Opcode}
 use Rattle.opcode_table.specs.declared.opcode.Opcode.TheVariants.{DataSetVariableTo, DataChangeVariableBy, DataShowVariable, DataHideVariable, DataAddToList, DataDeleteOfList, DataDeleteAllOfList, DataInsertAtList, DataReplaceItemOfList, DataShowList, DataHideList}
 use Rattle.opcode_table.specs.Kinds.{kind, group}
-use Rattle.script_machine.specs.Outcome.{Outcome, Goes, StopIs}
+use Rattle.script_machine.specs.Outcome.{Goes, StopIs}
 use Rattle.script_machine.specs.declared.threads.Context.{Context}
 use Rattle.script_machine.specs.declared.threads.Context.TheVariants.{Fresh}
 use Rattle.script_machine.specs.declared.threads.Control.TheVariants.{Next}
 use Rattle.script_machine.specs.declared.threads.Report.{Report}
 use Rattle.script_machine.specs.declared.threads.Which.{Which}
 use Rattle.script_machine.specs.Pending.{settle}
-use Rattle.script_machine.specs.Places.{Places, at_place, put, place, on_place}
+use Rattle.script_machine.specs.Places.{at_place, put, place, on_place}
 use Rattle.project_file.specs.Linked.{IsClosed, AreRanks}
 use Rattle.project_file.specs.declared.blocks.Block.{Block}
 use Rattle.project_check.specs.declared.project.Project.{Project}
@@ -25,7 +25,7 @@ use Rattle.cached_blocks.specs.declared.block.CachedBlock.{CachedBlock}
 use Rattle.cached_blocks.specs.Cached.{cached_block, cached_blocks}
 use Rattle.thread_frames.specs.Levels.{on_top, with_context, top_context}
 use Rattle.thread_frames.specs.Fit.{kind_of}
-use Rattle.thread_frames.specs.Threads.{Thread, levels_of, on_levels}
+use Rattle.thread_frames.specs.Threads.{levels_of, on_levels}
 use Rattle.thread_moves.proofs.Moves.{cached_is}
 use Rattle.executions.specs.declared.state.State.{State}
 use Rattle.executions.specs.declared.stepping.Next.{Next as Following}
@@ -40,7 +40,7 @@ use Rattle.executions.proofs.Enacting as enacting
 use Rattle.executions.proofs.Enacting.{fresh_at, same_levels}
 use Rattle.executions.proofs.Placing.{on_is, put_self}
 use Rattle.executions.proofs.Steps as steps
-use Rattle.executions.proofs.Taking.{without, found}
+use Rattle.executions.proofs.Taking.{without}
 
 data_plain : (o : Opcode) → group o ≡ Data → kind o ≡ Plain
 data_plain DataSetVariableTo h = refl

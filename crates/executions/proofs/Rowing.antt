@@ -1,5 +1,5 @@
 -- The row of the block of a runner, and its control.
-use Rattle.std.proofs.Common.{◌≡◌, ℕ, ◌<◌, ◌≤◌, ◌+◌, Bool, true, false, List, [], length, Option, Some, None, Result, Ok, Err, refl, sym, ap, ◌∙◌, subst, arith}
+use Rattle.std.proofs.Common.{◌≡◌, ℕ, ◌<◌, Bool, true, List, [], length, Option, Some, Result, Err, sym, ap, ◌∙◌, subst}
 use Rattle.std.specs.Prelude.{slice_get, unwrap_or}
 use Rattle.rand_core.specs.Stream.{Stream}
 use Rattle.script_words.specs.declared.counting.Counted.{Counted}
@@ -20,7 +20,7 @@ use Rattle.script_machine.specs.declared.threads.Control.{Control}
 use Rattle.script_machine.specs.declared.threads.Control.TheVariants.{Next, Clone}
 use Rattle.script_machine.specs.declared.threads.Report.{Report}
 use Rattle.script_machine.specs.Pending.{settle}
-use Rattle.script_machine.specs.Places.{Places, at_place, place}
+use Rattle.script_machine.specs.Places.{place}
 use Rattle.script_machine.specs.Starting.{open_levels}
 use Rattle.script_machine.specs.Step.{Moment, position, opens_level, step}
 use Rattle.script_machine.specs.Tasks.{Task}

@@ -27,7 +27,7 @@ use crate::moving::{enter, go_on};
 use crate::running::{Runner, give_back};
 use crate::state::State;
 use cached_blocks::CachedBlock;
-use evaluate::{View, inputs};
+use evaluate::{View, inputs, no_inputs, only_input};
 use opcode_table::{Group, group};
 use project_check::Project;
 use scratch_values::Args;
@@ -105,7 +105,15 @@ impl<R: Rng + Drop> State<R> {
         ensures stop { Enacts R.stream project.now slot id late args.entry.now (with_runner runner.old self.old) (StopIs result) }
     {
         let threads = &mut self.threads;
-        enter(project, threads, runner, id, number, is_loop, Context::Fresh)
+        enter(
+            project,
+            threads,
+            runner,
+            id,
+            number,
+            is_loop,
+            Context::Fresh,
+        )
     }
 
     // The runner goes on behind its block, which chose no branch.
@@ -207,7 +215,7 @@ impl<R: Rng + Drop> State<R> {
     }
 
     // The row of the block of a runner, and what its control does; the inputs were evaluated.
-    #[inline]
+    #[inline(always)]
     fn enact(
         &mut self,
         alloc: Global,
@@ -264,6 +272,7 @@ impl<R: Rng + Drop> State<R> {
     {
         let _rank = project.rank(runner.target, id);
         let _closed = project.blocks(runner.target);
+        let block = project.cached(runner.target, id);
         let params = runner.levels.params();
         let view = View {
             project,
@@ -274,9 +283,22 @@ impl<R: Rng + Drop> State<R> {
             target: runner.target,
             params,
         };
-        match &inputs(alloc, &view, id, &mut self.words) {
-            Ok(args) => self.enact(alloc, project, slot, runner, id, args, late),
-            Err(stop) => Err(*stop),
+        match block.inputs.len() {
+            0 => {
+                let args = no_inputs(&view, id);
+                self.enact(alloc, project, slot, runner, id, &args, late)
+            }
+            1 => match only_input(alloc, &view, id, &mut self.words) {
+                Ok(first) => {
+                    let args = Args::one(block.fields.as_slice(), first);
+                    self.enact(alloc, project, slot, runner, id, &args, late)
+                }
+                Err(stop) => Err(stop),
+            },
+            _ => match &inputs(alloc, &view, id, &mut self.words) {
+                Ok(args) => self.enact(alloc, project, slot, runner, id, args, late),
+                Err(stop) => Err(*stop),
+            },
         }
     }
 

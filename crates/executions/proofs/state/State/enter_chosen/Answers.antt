@@ -1,5 +1,5 @@
 -- The branch that was chosen is entered.
-use Rattle.std.proofs.Common.{◌≡◌, refl}
+use Rattle.std.proofs.Common.{refl}
 use Rattle.script_machine.specs.declared.threads.Control.TheVariants.{Branch}
 use Rattle.script_machine.specs.declared.threads.Report.{Report}
 use Rattle.script_machine.specs.Starting.{open_levels}
