@@ -1,9 +1,8 @@
 -- What a reporter gives by a short way.
-use Rattle.std.proofs.Common.{◌≡◌, ℕ, Bool, List, [], ◌∷◌, ◌++◌, refl, sym, ap, ◌∙◌}
+use Rattle.std.proofs.Common.{◌≡◌, ℕ, Bool, List, [], ◌∷◌, ◌++◌, refl, ◌∙◌}
 use Rattle.std.specs.Prelude.{codes, not}
 use Rattle.opcode_table.specs.declared.opcode.Opcode.{Opcode}
 use Rattle.opcode_table.specs.declared.opcode.Opcode.TheVariants.{OperatorNot, OperatorJoin, OperatorRound}
-use Rattle.scratch_number.specs.declared.number.Num.{Num}
 use Rattle.scratch_number.specs.Arithmetic.{round}
 use Rattle.scratch_values.specs.declared.names.ResolvedField.{ResolvedField}
 use Rattle.scratch_values.specs.declared.value.Value.{Value}
@@ -29,7 +28,7 @@ use Rattle.evaluate.specs.declared.ways.Way.{Way}
 use Rattle.evaluate.specs.declared.ways.Way.TheVariants.{Numbers, Rounded, Values, Truths, Negated, Joined, Arguments}
 use Rattle.evaluate.specs.Seen.{seen, operand_value, reporter_value, input_values}
 use Rattle.evaluate.specs.Ways.{arithmetic_op, comparison_op, connective_op, calculated, compared, connected, Operates, IsWay}
-use Rattle.evaluate.specs.Short.{counts, holds, calculation, comparison, connective, both_texts, rounded, negated, by_way}
+use Rattle.evaluate.specs.Short.{by_way}
 
 -- What is made of one value, or of two
 

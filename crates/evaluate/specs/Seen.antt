@@ -2,6 +2,7 @@
 use Rattle.std.specs.Prelude.{ℕ, List, [], slice_get, unwrap_or, option_map, Option, None, Some}
 use Rattle.scratch_values.specs.Named.{Arguments}
 use Rattle.scratch_values.specs.Args.{arguments}
+use Rattle.scratch_values.specs.declared.names.ResolvedField.{ResolvedField}
 use Rattle.scratch_values.specs.declared.value.Value.{Value}
 use Rattle.script_machine.specs.Outcome.{Outcome, then_do}
 use Rattle.script_machine.specs.Words.{Words, Drawn, undrawn, made_of}
@@ -46,3 +47,18 @@ arguments_by v (Some c) w = then_do (input_values v c.inputs w) (made_of (λ xs.
 
 abbrev pub arguments_at : View → ℕ → Words → Outcome (Drawn Arguments)
 arguments_at v k w = arguments_by v (slice_get (cached_blocks (sheet_of v)) k) w
+
+-- the inputs of a block of the target, and its fields
+abbrev pub inputs_of : Option CachedBlock → List (List ℕ × Operand)
+inputs_of None = []
+inputs_of (Some c) = c.inputs
+
+abbrev pub inputs_at : View → ℕ → List (List ℕ × Operand)
+inputs_at v k = inputs_of (slice_get (cached_blocks (sheet_of v)) k)
+
+abbrev pub fields_of : Option CachedBlock → List ResolvedField
+fields_of None = []
+fields_of (Some c) = c.fields
+
+abbrev pub fields_at : View → ℕ → List ResolvedField
+fields_at v k = fields_of (slice_get (cached_blocks (sheet_of v)) k)

@@ -462,7 +462,7 @@ fn reporter_truth<R: Rng + Drop>(
 // An input of block k with its value.
 #[inline(always)]
 #[cycle(evaluate)]
-fn argument<'p, R: Rng + Drop>(
+pub(crate) fn argument<'p, R: Rng + Drop>(
     alloc: Global,
     view: &View<'p, '_>,
     k: BlockId,

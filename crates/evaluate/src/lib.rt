@@ -5,10 +5,12 @@
 mod evaluating;
 mod linked;
 mod operating;
+mod sole;
 mod view;
 mod ways;
 
 pub use evaluating::inputs;
+pub use sole::{no_inputs, only_input};
 pub use view::View;
 
 #[cfg(test)]

@@ -1,7 +1,6 @@
 -- A runner that moves is the thread of the list that moves, with its levels apart.
 use Rattle.std.proofs.Common.{◌≡◌, ℕ, ◌+◌, ◌≤◌, Bool, true, false, List, [], ◌++◌, length, Some, refl, sym, ap, ◌∙◌, subst, arith}
 use Rattle.script_machine.specs.Script.{Statement}
-use Rattle.script_machine.specs.declared.threads.Which.{Which}
 use Rattle.script_machine.specs.declared.threads.Report.{Report}
 use Rattle.script_machine.specs.Outcome.{most_levels}
 use Rattle.script_machine.specs.Pending.{Item, Position, dos}
@@ -22,7 +21,7 @@ use Rattle.executions.specs.declared.state.State.{State}
 use Rattle.executions.specs.Ready.{IsReadyUnless}
 use Rattle.executions.specs.Moves.{IsAtBlock, MovesOn, with_levels}
 use Rattle.executions.specs.Nexts.{next_by, next_of}
-use Rattle.executions.specs.Runners.{IsApart, IsMoved, IsRunner, IsRunnerUnless, given_back, given_unless, next_block}
+use Rattle.executions.specs.Runners.{IsApart, IsMoved, IsRunnerUnless, given_back, given_unless, next_block}
 use Rattle.executions.specs.Seen.{sheets}
 use Rattle.executions.proofs.Placing.{on_is, on_again, put_at, put_put, place_put}
 

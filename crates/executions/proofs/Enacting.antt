@@ -53,6 +53,7 @@ use Rattle.thread_moves.proofs.Moves.{cached_is}
 use Rattle.executions.specs.declared.state.State.{State}
 use Rattle.executions.specs.declared.stepping.Next.{Next}
 use Rattle.executions.specs.Seen.{sheets, seen_threads, seen}
+use Rattle.executions.specs.Choices.{KeepsNothing}
 use Rattle.executions.specs.Ready.{IsReady, IsAfter}
 use Rattle.executions.specs.Moves.{IsAtBlock, Moved, MovesOn, room_for}
 use Rattle.executions.specs.Nexts.{next_by, next_of}
@@ -86,6 +87,14 @@ fresh_by (l ∷ ls) k sheet h e kind_is same afresh =
     let (o, at) = held_at sheet.blocks k (subst (IsHeld sheet) e h.fit.0.held) in
     let fits : top_fits l.context l.is_loop (kind_of o) ≡ true = ap (λ x. top_at x l.context l.is_loop) (sym (block_at_is sheet l.block k o e at)) ∙ h.fit.0.fits in
     afresh_fits l.context l.is_loop kind_is (ap (top_fits l.context l.is_loop) (sym (same o at)) ∙ fits) afresh
+
+-- nor had one whose kind keeps nothing
+pub fresh_at : (ls : List Level) (k : ℕ) (sheet : Sheet) → IsReadyAt sheet ls → top_block ls ≡ Some k → (kind_is : Kind) → ((o : Block) → slice_get sheet.blocks k ≡ Some o → kind_of o ≡ kind_is) → KeepsNothing kind_is → top_context ls ≡ Fresh
+fresh_at [] k sheet h e kind_is same keeps = refl
+fresh_at (l ∷ ls) k sheet h e kind_is same keeps =
+    let (o, at) = held_at sheet.blocks k (subst (IsHeld sheet) e h.fit.0.held) in
+    let fits : top_fits l.context l.is_loop (kind_of o) ≡ true = ap (λ x. top_at x l.context l.is_loop) (sym (block_at_is sheet l.block k o e at)) ∙ h.fit.0.fits in
+    keeps l.context l.is_loop (ap (top_fits l.context l.is_loop) (sym (same o at)) ∙ fits)
 
 pub same_levels : (ls : List Level) → top_context ls ≡ Fresh → on_top (with_context Fresh) ls ≡ ls
 same_levels [] e = refl

@@ -8,6 +8,7 @@ pub mod Counted
 pub mod Taking
 pub mod Steps
 pub mod Enacting
+pub mod Chosen
 pub mod Plainly
 pub mod Runs
 pub mod Rowing

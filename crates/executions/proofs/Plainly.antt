@@ -1,5 +1,5 @@
--- A block of data: it keeps nothing, and the thread goes on behind it.
-use Rattle.std.proofs.Common.{◌≡◌, ℕ, Bool, true, false, List, Option, Some, None, Result, Ok, Err, refl, sym, ap, ◌∙◌, subst}
+-- A block whose kind keeps nothing, and a block of data, behind which the thread goes on.
+use Rattle.std.proofs.Common.{◌≡◌, ℕ, Bool, Some, Err, refl, sym, ap, ◌∙◌, subst}
 use Rattle.std.specs.Prelude.{slice_get}
 use Rattle.rand_core.specs.Stream.{Stream}
 use Rattle.script_words.specs.declared.stops.Stop.{Stop}
@@ -9,15 +9,14 @@ use Rattle.opcode_table.specs.declared.kinds.Kind.TheVariants.{Plain}
 use Rattle.opcode_table.specs.declared.opcode.Opcode.{Opcode}
 use Rattle.opcode_table.specs.declared.opcode.Opcode.TheVariants.{DataSetVariableTo, DataChangeVariableBy, DataShowVariable, DataHideVariable, DataAddToList, DataDeleteOfList, DataDeleteAllOfList, DataInsertAtList, DataReplaceItemOfList, DataShowList, DataHideList}
 use Rattle.opcode_table.specs.Kinds.{kind, group}
-use Rattle.control_blocks.specs.Afresh.{was_afresh}
-use Rattle.script_machine.specs.Outcome.{Outcome, Goes, StopIs}
+use Rattle.script_machine.specs.Outcome.{Goes, StopIs}
 use Rattle.script_machine.specs.declared.threads.Context.{Context}
 use Rattle.script_machine.specs.declared.threads.Context.TheVariants.{Fresh}
 use Rattle.script_machine.specs.declared.threads.Control.TheVariants.{Next}
 use Rattle.script_machine.specs.declared.threads.Report.{Report}
 use Rattle.script_machine.specs.declared.threads.Which.{Which}
 use Rattle.script_machine.specs.Pending.{settle}
-use Rattle.script_machine.specs.Places.{Places, at_place, put, place, on_place}
+use Rattle.script_machine.specs.Places.{at_place, put, place, on_place}
 use Rattle.project_file.specs.Linked.{IsClosed, AreRanks}
 use Rattle.project_file.specs.declared.blocks.Block.{Block}
 use Rattle.project_check.specs.declared.project.Project.{Project}
@@ -26,22 +25,24 @@ use Rattle.cached_blocks.specs.declared.block.CachedBlock.{CachedBlock}
 use Rattle.cached_blocks.specs.Cached.{cached_block, cached_blocks}
 use Rattle.thread_frames.specs.Levels.{on_top, with_context, top_context}
 use Rattle.thread_frames.specs.Fit.{kind_of}
-use Rattle.thread_frames.specs.Threads.{Thread, levels_of, on_levels}
+use Rattle.thread_frames.specs.Threads.{levels_of, on_levels}
 use Rattle.thread_moves.proofs.Moves.{cached_is}
 use Rattle.executions.specs.declared.state.State.{State}
 use Rattle.executions.specs.declared.stepping.Next.{Next as Following}
+use Rattle.executions.specs.Choices.{KeepsNothing}
 use Rattle.executions.specs.Seen.{sheets, seen}
 use Rattle.executions.specs.Ready.{IsReady, IsAfter}
 use Rattle.executions.specs.Moves.{IsAtBlock, MovesOn}
 use Rattle.executions.specs.Nexts.{next_of}
 use Rattle.executions.specs.Rows.{RowGoes, RowStops, Leaves, Enacts}
+use Rattle.executions.proofs.Chosen.{plain_keeps}
 use Rattle.executions.proofs.Enacting as enacting
-use Rattle.executions.proofs.Enacting.{fresh_by, same_levels}
+use Rattle.executions.proofs.Enacting.{fresh_at, same_levels}
 use Rattle.executions.proofs.Placing.{on_is, put_self}
 use Rattle.executions.proofs.Steps as steps
-use Rattle.executions.proofs.Taking.{without, found}
+use Rattle.executions.proofs.Taking.{without}
 
-pub data_plain : (o : Opcode) → group o ≡ Data → kind o ≡ Plain
+data_plain : (o : Opcode) → group o ≡ Data → kind o ≡ Plain
 data_plain DataSetVariableTo h = refl
 data_plain DataChangeVariableBy h = refl
 data_plain DataShowVariable h = refl
@@ -55,9 +56,12 @@ data_plain DataShowList h = refl
 data_plain DataHideList h = refl
 data_plain o h = absurd (cc h)
 
+pub data_keeps : (o : Opcode) → group o ≡ Data → KeepsNothing (kind o)
+data_keeps o h = subst KeepsNothing (sym (data_plain o h)) plain_keeps
+
 module _ {R : Type 0} (stream : R → Stream) (p : Project) (i : ℕ) (which : Which) (n : Following) (late : Bool) (a : Arguments) (w : State R) (ready : IsReady p i w) (at : which ≡ place i w.threads)
     (next : next_of (at_place which w.threads) ≡ Some n) (ranks : AreRanks (blocks_at n.target p) (ranks_at n.target p)) (closed : IsClosed (blocks_at n.target p))
-    (b : CachedBlock) (cached : slice_get (cached_blocks (sheets p n.target)) n.id ≡ Some b) (plain : kind b.op ≡ Plain) where
+    (b : CachedBlock) (cached : slice_get (cached_blocks (sheets p n.target)) n.id ≡ Some b) (keeps : KeepsNothing (kind b.op)) where
   abbrev facts : enacting.IsNext ready.thread n
   facts = enacting.facts stream p i which n late a w ready at next ranks closed
 
@@ -69,13 +73,13 @@ module _ {R : Type 0} (stream : R → Stream) (p : Project) (i : ℕ) (which : W
 
   -- the block has kept nothing
   fresh : top_context ready.thread.levels ≡ Fresh
-  fresh = fresh_by ready.thread.levels n.id (sheets p ready.thread.target) ready.ready facts.holds Plain (λ o e. kind_here o e) refl
+  fresh = fresh_at ready.thread.levels n.id (sheets p ready.thread.target) ready.ready facts.holds (kind b.op) (λ o e. kind_here o e) keeps
     where
-      kind_here : (o : Block) → slice_get (sheets p ready.thread.target).blocks n.id ≡ Some o → kind_of o ≡ Plain
+      kind_here : (o : Block) → slice_get (sheets p ready.thread.target).blocks n.id ≡ Some o → kind_of o ≡ kind b.op
       kind_here o e =
           let th = steps.th stream p i n.id late w ready facts.holds ranked in
           let same : o ≡ th.block = cc (sym e ∙ th.found) in
-          ap kind_of same ∙ ap (λ x. kind x.op) (sym block_is) ∙ plain
+          ap kind_of same ∙ ap (λ x. kind x.op) (sym block_is)
 
   found_here : at_place which w.threads ≡ Some ready.thread
   found_here = ap (λ z. at_place z w.threads) at ∙ ready.found
@@ -87,7 +91,7 @@ module _ {R : Type 0} (stream : R → Stream) (p : Project) (i : ℕ) (which : W
       sym (on_is (on_levels (on_top (with_context Fresh))) which w.threads (on_place (on_levels (on_top (with_context Fresh))) which w.threads) ready.thread found_here refl
       ∙ ap (λ t. put which t w.threads) thread_is ∙ put_self which w.threads ready.thread found_here)
 
-  keeps_nothing : Fresh ≡ top_context (levels_of (at_place which w.threads))
+  pub keeps_nothing : Fresh ≡ top_context (levels_of (at_place which w.threads))
   keeps_nothing = sym (ap (λ o. top_context (levels_of o)) found_here ∙ fresh)
 
   pub stands_at : IsAtBlock p which w.threads n.target n.id

@@ -1,11 +1,10 @@
 -- The row of the block of a runner, and its control.
-use Rattle.std.proofs.Common.{◌≡◌, ℕ, ◌<◌, ◌≤◌, ◌+◌, Bool, true, false, List, [], length, Option, Some, None, Result, Ok, Err, refl, sym, ap, ◌∙◌, subst, arith}
+use Rattle.std.proofs.Common.{◌≡◌, ℕ, ◌<◌, Bool, true, List, [], length, Option, Some, Result, Err, sym, ap, ◌∙◌, subst}
 use Rattle.std.specs.Prelude.{slice_get, unwrap_or}
 use Rattle.rand_core.specs.Stream.{Stream}
 use Rattle.script_words.specs.declared.counting.Counted.{Counted}
 use Rattle.script_words.specs.declared.stops.Stop.{Stop}
 use Rattle.scratch_values.specs.Named.{Arguments}
-use Rattle.opcode_table.specs.declared.kinds.Kind.TheVariants.{Plain}
 use Rattle.opcode_table.specs.Kinds.{kind}
 use Rattle.control_blocks.specs.Afresh.{was_afresh}
 use Rattle.script_machine.specs.Outcome.{Outcome, Goes, StopIs, most_levels}
@@ -21,7 +20,7 @@ use Rattle.script_machine.specs.declared.threads.Control.{Control}
 use Rattle.script_machine.specs.declared.threads.Control.TheVariants.{Next, Clone}
 use Rattle.script_machine.specs.declared.threads.Report.{Report}
 use Rattle.script_machine.specs.Pending.{settle}
-use Rattle.script_machine.specs.Places.{Places, at_place, place}
+use Rattle.script_machine.specs.Places.{place}
 use Rattle.script_machine.specs.Starting.{open_levels}
 use Rattle.script_machine.specs.Step.{Moment, position, opens_level, step}
 use Rattle.script_machine.specs.Tasks.{Task}
@@ -44,8 +43,11 @@ use Rattle.executions.specs.Moves.{IsAtBlock, MovesOn, room_for}
 use Rattle.executions.specs.Ready.{IsAfter}
 use Rattle.executions.specs.Rows.{RowGoes, RowStops, Leaves, Acts, Enacts, may_clone}
 use Rattle.executions.specs.Runners.{IsApart, IsRunner, IsRunnerAfter, IsMoved, after_runner, given_back, given_unless, next_block, with_runner}
-use Rattle.executions.proofs.Apart.{runs_on}
+use Rattle.executions.specs.Choices.{KeepsNothing, chosen}
+use Rattle.executions.proofs.Apart.{runs_on, back_levels}
+use Rattle.executions.proofs.Chosen.{chosen_goes, chosen_keeps, chosen_own, leaves_all}
 use Rattle.executions.proofs.Enacting as enacting
+use Rattle.executions.proofs.Enacting.{same_levels}
 use Rattle.executions.proofs.Plainly as plainly
 use Rattle.executions.proofs.Runs.{back_listed, row_apart, stops_apart, leaves_apart, apart_leaves, left_with, left_apart, left_is, left_block, at_place_is, next_is, near_is, context_is}
 
@@ -66,30 +68,30 @@ module _ {R : Type 0} (stream : R → Stream) (p : Project) (i k : ℕ) (late : 
   same_list = back_listed r w.threads runs.apart
 
   -- a block of data
-  module _ (plain : kind b.op ≡ Plain) where
+  module _ (keeps : KeepsNothing (kind b.op)) where
     pub data_stops : (T U : Type 0) (stop : Stop) → ((thread : ℕ) (c : Context) → RowStops {T = T} stream p b a r.here thread c w (Err stop)) → Enacts stream p i k late a v (StopIs {T = U} (Err stop))
     data_stops T U stop stops =
-        plainly.row_stops stream p i r.which (next_block r k) late a v runs.ready (at_place_is p i k r w runs top) (next_is p i k r w runs top) ranks closed b cached plain T U stop
+        plainly.row_stops stream p i r.which (next_block r k) late a v runs.ready (at_place_is p i k r w runs top) (next_is p i k r w runs top) ranks closed b cached keeps T U stop
         (λ thread c. stops_apart stream p b a r.here thread c w v.threads v.threads same_list {T = T} (Err stop) (stops thread c))
 
     module _ (mid : State R) (left : Leaves w mid) where
       pub data_at : IsAtBlock p r.which (given_back r mid.threads) r.target k
       data_at =
           subst (λ ts. IsAtBlock p r.which (given_back r ts) r.target k) (sym left.threads)
-          (plainly.stands_at stream p i r.which (next_block r k) late a v runs.ready (at_place_is p i k r w runs top) (next_is p i k r w runs top) ranks closed b cached plain)
+          (plainly.stands_at stream p i r.which (next_block r k) late a v runs.ready (at_place_is p i k r w runs top) (next_is p i k r w runs top) ranks closed b cached keeps)
 
       module _ (goes : (thread : ℕ) (c : Context) → RowGoes stream p b a r.here thread c w Fresh mid Next) (last : State R) (last_is : last ≡ record mid { threads = last.threads }) (new : Runner) (report : Report)
           (moves : MovesOn p r.which r.target k (λ s rest warp. settle rest warp) (given_back r mid.threads) (given_unless (is_ended report) new last.threads) report) where
         pub data_goes : Enacts stream p i k late a v (λ o. o ≡ Goes (record { world = seen stream p (after_runner report new last); report = report }))
         data_goes =
-            plainly.goes_on stream p i r.which (next_block r k) late a v runs.ready (at_place_is p i k r w runs top) (next_is p i k r w runs top) ranks closed b cached plain (with_runner r mid)
+            plainly.goes_on stream p i r.which (next_block r k) late a v runs.ready (at_place_is p i k r w runs top) (next_is p i k r w runs top) ranks closed b cached keeps (with_runner r mid)
             (λ thread c. row_apart stream p b a r.here thread c w v.threads (with_runner r mid).threads same_list mid Fresh Next (goes thread c)) (leaves_apart w mid r left)
             (after_runner report new last) report moves (ap (after_runner report new) last_is)
 
         pub data_after : IsMoved r new mid.threads last.threads report → IsRunnerAfter p i report new last
         data_after moved =
             after_at p i k r new mid last report (apart_leaves w mid r left runs.apart) (runs.place_is ∙ ap (place i) (sym left.threads)) moved last_is
-            (plainly.goes_after stream p i r.which (next_block r k) late a v runs.ready (at_place_is p i k r w runs top) (next_is p i k r w runs top) ranks closed b cached plain (with_runner r mid)
+            (plainly.goes_after stream p i r.which (next_block r k) late a v runs.ready (at_place_is p i k r w runs top) (next_is p i k r w runs top) ranks closed b cached keeps (with_runner r mid)
             (λ thread c. row_apart stream p b a r.here thread c w v.threads (with_runner r mid).threads same_list mid Fresh Next (goes thread c)) (leaves_apart w mid r left)
             (after_runner report new last) report moves (ap (after_runner report new) last_is))
 
@@ -162,6 +164,33 @@ module _ {R : Type 0} (stream : R → Stream) (p : Project) (i k : ℕ) (late : 
         others_act P acts =
             enacting.others_act stream p i r.which (next_block r k) late a v runs.ready (at_place_is p i k r w runs top) (next_is p i k r w runs top) ranks closed (given_back r1 w.threads) c (context_is p i k r w runs top c kept) (left_is r ls taken w.threads runs.apart) b cached
             (with_runner r1 mid) control c' goes_v was fresh (leaves_apart w mid r1 left) P acts
+
+  -- a block that only chooses where the runner goes
+  module _ (control : Control) (chosen_is : chosen b.op a ≡ Some control) where
+    fresh : Fresh ≡ top_context r.levels
+    fresh =
+        plainly.keeps_nothing stream p i r.which (next_block r k) late a v runs.ready (at_place_is p i k r w runs top) (next_is p i k r w runs top) ranks closed b cached (chosen_keeps b.op a control chosen_is)
+        ∙ ap top_context (back_levels r w.threads runs.apart)
+
+    untaken : r.levels ≡ on_top (with_context Fresh) r.levels
+    untaken = sym (same_levels r.levels (sym fresh))
+
+    goes : RowGoes stream p b a r.here r.serial Fresh w Fresh w control
+    goes = chosen_goes stream p b a r.here r.serial Fresh w control chosen_is
+
+    pub choice_at : IsAtBlock p r.which (given_back r w.threads) r.target k
+    choice_at = kept_at Fresh fresh r.levels untaken w control Fresh goes (leaves_all w)
+
+    pub choice_stops : (T U : Type 0) (stop : Stop) → StopIs {T = T} (Err stop) (room_for (opens_level control) (open_levels frames (given_back r w.threads))) → Enacts stream p i k late a v (StopIs {T = U} (Err stop))
+    choice_stops = kept_own_stops Fresh fresh r.levels untaken w control Fresh goes (leaves_all w) (chosen_own b.op a control chosen_is)
+
+    module _ (last : State R) (last_is : last ≡ record w { threads = last.threads }) (new : Runner) (report : Report)
+        (moves : MovesOn p r.which r.target k (λ s rest warp. position (program_of p) late warp s rest control Fresh) (given_back r w.threads) (given_unless (is_ended report) new last.threads) report) where
+      pub choice_goes : (opens_level control ≡ true → open_levels frames (given_back r w.threads) < most_levels) → Enacts stream p i k late a v (λ o. o ≡ Goes (record { world = seen stream p (after_runner report new last); report = report }))
+      choice_goes = kept_own_goes Fresh fresh r.levels untaken w control Fresh goes (leaves_all w) (chosen_own b.op a control chosen_is) last last_is new report moves
+
+      pub choice_after : IsMoved r new w.threads last.threads report → IsRunnerAfter p i report new last
+      choice_after = kept_own_after Fresh fresh r.levels untaken w control Fresh goes (leaves_all w) (chosen_own b.op a control chosen_is) last last_is new report moves
 
   -- its instance is live
   pub runner_live : IsLive r.here w.targets

@@ -1,11 +1,9 @@
 -- A runner, and the run with its levels given back.
-use Rattle.std.proofs.Common.{◌≡◌, ℕ, ◌+◌, ◌≤◌, Bool, true, false, List, [], ◌∷◌, length, map, Option, Some, Result, Ok, Err, refl, sym, ap, ◌∙◌, subst, arith}
-use Rattle.std.specs.Prelude.{slice_get, IfOk}
+use Rattle.std.proofs.Common.{◌≡◌, ℕ, ◌+◌, ◌≤◌, Bool, false, List, [], ◌∷◌, length, Option, Some, Result, refl, sym, ap, ◌∙◌, subst, arith}
 use Rattle.rand_core.specs.Stream.{Stream}
 use Rattle.script_words.specs.declared.stops.Stop.{Stop}
 use Rattle.scratch_values.specs.Named.{Arguments}
 use Rattle.script_machine.specs.Outcome.{Outcome, Goes, most_levels}
-use Rattle.script_machine.specs.Script.{Command}
 use Rattle.script_machine.specs.Threads.{Params}
 use Rattle.script_machine.specs.declared.threads.Context.{Context}
 use Rattle.script_machine.specs.declared.threads.Context.TheVariants.{Fresh}

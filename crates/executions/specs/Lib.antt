@@ -5,3 +5,4 @@ pub mod Rows
 pub mod Nexts
 pub mod Resting
 pub mod Runners
+pub mod Choices

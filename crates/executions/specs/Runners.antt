@@ -1,5 +1,5 @@
 -- The running thread with its levels apart from the list of threads.
-use Rattle.std.specs.Prelude.{◌≡◌, ℕ, ◌≤◌, ◌+◌, Bool, true, false, List, [], length, Some}
+use Rattle.std.specs.Prelude.{◌≡◌, ℕ, ◌≤◌, ◌+◌, Bool, true, false, [], length, Some}
 use Rattle.script_machine.specs.Outcome.{most_levels}
 use Rattle.script_machine.specs.declared.threads.Report.{Report}
 use Rattle.script_machine.specs.Places.{Places, at_place, place, on_place}

@@ -3,6 +3,7 @@
 
 mod acting;
 mod beginning;
+mod choosing;
 mod cloning;
 mod listed;
 mod moving;

@@ -11,25 +11,27 @@ ghost use Rattle.script_machine.specs.Laws as laws;
 ghost use Rattle.script_machine.specs.Outcome.{Goes, StopIs};
 ghost use Rattle.script_machine.specs.Step as machine;
 ghost use Rattle.script_machine.specs.declared.threads.Context.TheVariants.{Fresh};
-ghost use Rattle.script_machine.specs.declared.threads.Control.TheVariants.{Clone};
+ghost use Rattle.script_machine.specs.declared.threads.Control.TheVariants.{Branch, Clone, Next as Passes};
 ghost use Rattle.targets.specs.Live.{IsLive};
 ghost use Rattle.thread_frames.specs.Levels.{top_block};
 ghost use Rattle.thread_moves.specs.Standing.{is_ended as has_ended};
 ghost use Rattle.project_check.specs.Loaded.{program_of, tables_of, blocks_at, ranks_at, sheet_at};
+ghost use Rattle.executions.specs.Choices.{chosen};
 ghost use Rattle.executions.specs.Rows.{Acts, Enacts};
 ghost use Rattle.executions.specs.Runners.{IsRunner, IsRunnerAfter, after_runner, with_runner};
 ghost use Rattle.executions.specs.Seen.{seen};
 
 use crate::acting::is_own;
-use crate::moving::go_on;
+use crate::choosing::{Choice, way_chosen};
+use crate::moving::{enter, go_on};
 use crate::running::{Runner, give_back};
 use crate::state::State;
 use cached_blocks::CachedBlock;
-use evaluate::{View, inputs};
+use evaluate::{View, inputs, no_inputs, only_input};
 use opcode_table::{Group, group};
 use project_check::Project;
 use scratch_values::Args;
-use script_machine::{BlockId, Control, InstanceId, Report, Serial, TargetId};
+use script_machine::{BlockId, Context, Control, InstanceId, Report, Serial, TargetId};
 use script_words::{Rng, Stop};
 use std::alloc::Global;
 
@@ -76,6 +78,66 @@ impl<R: Rng + Drop> State<R> {
             Ok(()) => Ok(go_on(project, &mut self.threads, runner, id)),
             Err(stop) => Err(stop),
         }
+    }
+
+    // A branch that the block of the runner chose is entered.
+    #[inline]
+    fn enter_chosen(
+        &mut self,
+        project: &Project,
+        slot: u64,
+        runner: &mut Runner,
+        id: BlockId,
+        block: &CachedBlock,
+        args: &Args<'_>,
+        number: u8,
+        is_loop: bool,
+        late: bool,
+    ) -> Result<Report, Stop>
+        requires runs { IsRunner project.now slot runner.old self.old }
+        requires top { top_block runner.old.levels ≡ Some id }
+        requires ranks { AreRanks (blocks_at runner.old.target project.now) (ranks_at runner.old.target project.now) }
+        requires closed { IsClosed (blocks_at runner.old.target project.now) }
+        requires block { slice_get (cached_blocks (sheet_at runner.old.target project.now)) id ≡ Some block.now }
+        requires chosen { chosen block.now.op args.now ≡ Some (Branch number is_loop) }
+        ensures ok { IfOk result (λ report. Enacts R.stream project.now slot id late args.entry.now (with_runner runner.old self.old) (λ o. o ≡ Goes (record { world = seen R.stream project.now (after_runner report runner.new self.new); report = report }))) }
+        ensures after { IfOk result (λ report. IsRunnerAfter project.now slot report runner.new self.new) }
+        ensures stop { Enacts R.stream project.now slot id late args.entry.now (with_runner runner.old self.old) (StopIs result) }
+    {
+        let threads = &mut self.threads;
+        enter(
+            project,
+            threads,
+            runner,
+            id,
+            number,
+            is_loop,
+            Context::Fresh,
+        )
+    }
+
+    // The runner goes on behind its block, which chose no branch.
+    #[inline]
+    fn pass_chosen(
+        &mut self,
+        project: &Project,
+        slot: u64,
+        runner: &mut Runner,
+        id: BlockId,
+        block: &CachedBlock,
+        args: &Args<'_>,
+        late: bool,
+    ) -> Report
+        requires runs { IsRunner project.now slot runner.old self.old }
+        requires top { top_block runner.old.levels ≡ Some id }
+        requires ranks { AreRanks (blocks_at runner.old.target project.now) (ranks_at runner.old.target project.now) }
+        requires closed { IsClosed (blocks_at runner.old.target project.now) }
+        requires block { slice_get (cached_blocks (sheet_at runner.old.target project.now)) id ≡ Some block.now }
+        requires chosen { chosen block.now.op args.now ≡ Some Passes }
+        ensures goes { Enacts R.stream project.now slot id late args.entry.now (with_runner runner.old self.old) (λ o. o ≡ Goes (record { world = seen R.stream project.now (after_runner result runner.new self.new); report = result })) }
+        ensures after { IsRunnerAfter project.now slot result runner.new self.new }
+    {
+        go_on(project, &mut self.threads, runner, id)
     }
 
     // What a control does that is not of the runner alone, whose block keeps nothing: its levels are given back before.
@@ -153,7 +215,7 @@ impl<R: Rng + Drop> State<R> {
     }
 
     // The row of the block of a runner, and what its control does; the inputs were evaluated.
-    #[inline]
+    #[inline(always)]
     fn enact(
         &mut self,
         alloc: Global,
@@ -176,9 +238,16 @@ impl<R: Rng + Drop> State<R> {
         let _closed = project.blocks(runner.target);
         let block = project.cached(runner.target, id);
         if matches!(group(block.op), Group::Data) {
-            self.enact_data(project, slot, runner, id, block, args, late)
-        } else {
-            self.enact_kept(alloc, project, slot, runner, id, block, args, late)
+            return self.enact_data(project, slot, runner, id, block, args, late);
+        }
+        match way_chosen(block.op, args) {
+            Some(Choice::Enter { number, is_loop }) => self.enter_chosen(
+                project, slot, runner, id, block, args, number, is_loop, late,
+            ),
+            Some(Choice::Pass) => {
+                Ok(self.pass_chosen(project, slot, runner, id, block, args, late))
+            }
+            None => self.enact_kept(alloc, project, slot, runner, id, block, args, late),
         }
     }
 
@@ -203,6 +272,7 @@ impl<R: Rng + Drop> State<R> {
     {
         let _rank = project.rank(runner.target, id);
         let _closed = project.blocks(runner.target);
+        let block = project.cached(runner.target, id);
         let params = runner.levels.params();
         let view = View {
             project,
@@ -213,9 +283,22 @@ impl<R: Rng + Drop> State<R> {
             target: runner.target,
             params,
         };
-        match &inputs(alloc, &view, id, &mut self.words) {
-            Ok(args) => self.enact(alloc, project, slot, runner, id, args, late),
-            Err(stop) => Err(*stop),
+        match block.inputs.len() {
+            0 => {
+                let args = no_inputs(&view, id);
+                self.enact(alloc, project, slot, runner, id, &args, late)
+            }
+            1 => match only_input(alloc, &view, id, &mut self.words) {
+                Ok(first) => {
+                    let args = Args::one(block.fields.as_slice(), first);
+                    self.enact(alloc, project, slot, runner, id, &args, late)
+                }
+                Err(stop) => Err(stop),
+            },
+            _ => match &inputs(alloc, &view, id, &mut self.words) {
+                Ok(args) => self.enact(alloc, project, slot, runner, id, args, late),
+                Err(stop) => Err(*stop),
+            },
         }
     }
 

@@ -1,4 +1,4 @@
-use Rattle.std.proofs.Common.{◌≡◌, ℕ, ◌+◌, ◌<◌, ◌≤◌, ◌++◌, [], ◌∷◌, drop, map, sym, ap, ◌∙◌, subst, arith, rules}
+use Rattle.std.proofs.Common.{◌≡◌, ◌+◌, ◌++◌, [], ◌∷◌, drop, map, sym, ap, ◌∙◌, subst, arith}
 use Rattle.scratch_values.specs.Args.{arguments}
 use Rattle.scratch_values.specs.Held.{pair_of, held}
 use Rattle.script_machine.specs.Outcome.{Goes, StopIs, then_do}

@@ -2,7 +2,6 @@ use Rattle.std.proofs.Common.{◌≡◌, sym, ap, ◌∙◌, subst}
 use Rattle.std.proofs.lemmas.Result.{IfOk-weaker}
 use Rattle.script_machine.specs.Evaluate.{evaluated}
 use Rattle.script_machine.specs.Outcome.{StopIs}
-use Rattle.script_machine.specs.Script.{Statement}
 use Rattle.script_machine.specs.Words.{seen_words}
 use Rattle.project_check.specs.Loaded.{ranks_at}
 use Rattle.evaluate.specs.Seen.{seen, sheet_of}

@@ -1,4 +1,4 @@
-use Rattle.std.proofs.Common.{ap, ◌∙◌}
+use Rattle.std.proofs.Common.{ap}
 use Rattle.script_machine.specs.Evaluate.{value}
 use Rattle.project_check.specs.Loaded.{ranks_at}
 use Rattle.evaluate.specs.Seen.{seen, sheet_of}

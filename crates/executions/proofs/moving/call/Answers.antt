@@ -1,5 +1,5 @@
 -- The levels of the runner are moved, and have room for one more.
-use Rattle.std.proofs.Common.{◌≡◌, ◌<◌, refl, sym, ap, ◌∙◌, arith}
+use Rattle.std.proofs.Common.{◌<◌, refl, ap, ◌∙◌, arith}
 use Rattle.std.proofs.lemmas.Bool.Decides.{nat_tests}
 use Rattle.script_machine.specs.Outcome.{most_levels}
 use Rattle.script_machine.specs.Places.{on_place}

@@ -1,26 +1,77 @@
 -- The inputs are evaluated, and then the block is enacted.
-use Rattle.std.proofs.Common.{◌≡◌, []}
+use Rattle.std.proofs.Common.{◌≡◌, ℕ, List, [], ◌∷◌, Some, sym, ap, ◌∙◌}
+use Rattle.std.specs.Prelude.{slice_get}
+use Rattle.cached_blocks.specs.declared.block.CachedBlock.{CachedBlock}
+use Rattle.cached_blocks.specs.Cached.{cached_blocks}
+use Rattle.evaluate.specs.Seen.{fields_of}
+use Rattle.project_file.specs.Trees.{Sheet}
+use Rattle.scratch_values.specs.declared.held.Arg.{Arg}
+use Rattle.scratch_values.specs.declared.names.ResolvedField.{ResolvedField}
+use Rattle.scratch_values.specs.Args.{arguments}
+use Rattle.scratch_values.specs.Held.{pair_of}
 use Rattle.scratch_values.specs.Named.{Arguments}
 use Rattle.script_machine.specs.Outcome.{Goes, StopIs}
+use Rattle.script_machine.specs.Words.{seen_words}
 use Rattle.script_machine.specs.declared.threads.Report.{Report}
 use Rattle.executions.specs.Runners.{after_runner}
-use Rattle.executions.specs.Seen.{seen}
+use Rattle.executions.specs.Seen.{seen, sheets}
 use Rattle.executions.proofs.Enacting.{one_ok, of_ok}
 use Rattle.executions.proofs.Rowing.{runner_executes, runner_stopped}
 use Rattle.executions.proofs.state.State.execute.Goals as goal
 
-pub returns-in-Ok-clause-ok : goal.returns-in-Ok-clause-ok
-returns-in-Ok-clause-ok g c =
+-- the arguments of a block with one input
+sole_arguments : (first : Arg) (sheet : Sheet) (k : ℕ) (b : CachedBlock) → slice_get (cached_blocks sheet) k ≡ Some b → (fields : List ResolvedField) → fields ≡ b.fields → (a : Arguments) → a ≡ arguments (pair_of first ∷ []) fields
+    → arguments (pair_of first ∷ []) (fields_of (slice_get (cached_blocks sheet) k)) ≡ a
+sole_arguments first sheet k b here fields same a is = ap (λ o. arguments (pair_of first ∷ []) (fields_of o)) here ∙ ap (arguments (pair_of first ∷ [])) (sym same) ∙ sym is
+
+pub returns-in-0-clause-ok : goal.returns-in-0-clause-ok
+returns-in-0-clause-ok g c =
     one_ok c.enact.result _ _
-    (λ report acts. runner_executes g.R.Rng.stream c.args.project.now c.args.slot c.args.id c.args.late c.in-Ok.args c.args.runner.now c.args.self.now c.requires.runs c.requires.top c.rank-rank.ensures.ranks c.blocks-closed.ensures.closed _ c.params-params.ensures c.inputs.new.words (of_ok c.inputs.result _ c.in-Ok.args c.in-Ok.is c.inputs.ensures.ok)
+    (λ report acts. runner_executes g.R.Rng.stream c.args.project.now c.args.slot c.args.id c.args.late c.no_inputs-args.result c.args.runner.now c.args.self.now c.requires.runs c.requires.top c.rank-rank.ensures.ranks c.blocks-closed.ensures.closed _ c.params-params.ensures c.args.self.now.words
+    (λ s rest e. c.no_inputs-args.ensures s rest (seen_words g.R.Rng.stream c.args.self.now.words) e)
     (λ o. o ≡ Goes (record { world = seen g.R.Rng.stream c.args.project.now (after_runner report c.enact.new.runner c.enact.new.self); report = report })) acts)
     c.enact.ensures.ok
 
+pub returns-in-0-clause-stop : goal.returns-in-0-clause-stop
+returns-in-0-clause-stop g c =
+    runner_executes g.R.Rng.stream c.args.project.now c.args.slot c.args.id c.args.late c.no_inputs-args.result c.args.runner.now c.args.self.now c.requires.runs c.requires.top c.rank-rank.ensures.ranks c.blocks-closed.ensures.closed _ c.params-params.ensures c.args.self.now.words
+    (λ s rest e. c.no_inputs-args.ensures s rest (seen_words g.R.Rng.stream c.args.self.now.words) e)
+    (StopIs c.enact.result) c.enact.ensures.stop
+
+pub returns-in-Ok-clause-ok : goal.returns-in-Ok-clause-ok
+returns-in-Ok-clause-ok g c =
+    one_ok c.enact-in-Ok.result _ _
+    (λ report acts. runner_executes g.R.Rng.stream c.args.project.now c.args.slot c.args.id c.args.late c.one-args.result c.args.runner.now c.args.self.now c.requires.runs c.requires.top c.rank-rank.ensures.ranks c.blocks-closed.ensures.closed _ c.params-params.ensures c.only_input.new.words
+    (λ s rest e. of_ok c.only_input.result _ c.in-Ok.first c.in-Ok.is c.only_input.ensures.ok s rest e
+    ∙ ap (λ a. Goes (record { value = a; words = seen_words g.R.Rng.stream c.only_input.new.words })) (sole_arguments c.in-Ok.first (sheets c.args.project.now c.args.runner.now.target) c.args.id c.cached-block.result.now c.cached-block.ensures c.as_slice.result.now c.as_slice.ensures c.one-args.result c.one-args.ensures))
+    (λ o. o ≡ Goes (record { world = seen g.R.Rng.stream c.args.project.now (after_runner report c.enact-in-Ok.new.runner c.enact-in-Ok.new.self); report = report })) acts)
+    c.enact-in-Ok.ensures.ok
+
 pub returns-in-Ok-clause-stop : goal.returns-in-Ok-clause-stop
 returns-in-Ok-clause-stop g c =
-    runner_executes g.R.Rng.stream c.args.project.now c.args.slot c.args.id c.args.late c.in-Ok.args c.args.runner.now c.args.self.now c.requires.runs c.requires.top c.rank-rank.ensures.ranks c.blocks-closed.ensures.closed _ c.params-params.ensures c.inputs.new.words (of_ok c.inputs.result _ c.in-Ok.args c.in-Ok.is c.inputs.ensures.ok)
-    (StopIs c.enact.result) c.enact.ensures.stop
+    runner_executes g.R.Rng.stream c.args.project.now c.args.slot c.args.id c.args.late c.one-args.result c.args.runner.now c.args.self.now c.requires.runs c.requires.top c.rank-rank.ensures.ranks c.blocks-closed.ensures.closed _ c.params-params.ensures c.only_input.new.words
+    (λ s rest e. of_ok c.only_input.result _ c.in-Ok.first c.in-Ok.is c.only_input.ensures.ok s rest e
+    ∙ ap (λ a. Goes (record { value = a; words = seen_words g.R.Rng.stream c.only_input.new.words })) (sole_arguments c.in-Ok.first (sheets c.args.project.now c.args.runner.now.target) c.args.id c.cached-block.result.now c.cached-block.ensures c.as_slice.result.now c.as_slice.ensures c.one-args.result c.one-args.ensures))
+    (StopIs c.enact-in-Ok.result) c.enact-in-Ok.ensures.stop
+
+pub returns-in-Ok-inputs-clause-ok : goal.returns-in-Ok-inputs-clause-ok
+returns-in-Ok-inputs-clause-ok g c =
+    one_ok c.enact-in-Ok-inputs.result _ _
+    (λ report acts. runner_executes g.R.Rng.stream c.args.project.now c.args.slot c.args.id c.args.late c.in-Ok-inputs.args c.args.runner.now c.args.self.now c.requires.runs c.requires.top c.rank-rank.ensures.ranks c.blocks-closed.ensures.closed _ c.params-params.ensures c.inputs.new.words
+    (of_ok c.inputs.result _ c.in-Ok-inputs.args c.in-Ok-inputs.is c.inputs.ensures.ok)
+    (λ o. o ≡ Goes (record { world = seen g.R.Rng.stream c.args.project.now (after_runner report c.enact-in-Ok-inputs.new.runner c.enact-in-Ok-inputs.new.self); report = report })) acts)
+    c.enact-in-Ok-inputs.ensures.ok
+
+pub returns-in-Ok-inputs-clause-stop : goal.returns-in-Ok-inputs-clause-stop
+returns-in-Ok-inputs-clause-stop g c =
+    runner_executes g.R.Rng.stream c.args.project.now c.args.slot c.args.id c.args.late c.in-Ok-inputs.args c.args.runner.now c.args.self.now c.requires.runs c.requires.top c.rank-rank.ensures.ranks c.blocks-closed.ensures.closed _ c.params-params.ensures c.inputs.new.words
+    (of_ok c.inputs.result _ c.in-Ok-inputs.args c.in-Ok-inputs.is c.inputs.ensures.ok)
+    (StopIs c.enact-in-Ok-inputs.result) c.enact-in-Ok-inputs.ensures.stop
+
+pub returns-in-1-clause-stop : goal.returns-in-1-clause-stop
+returns-in-1-clause-stop g c =
+    runner_stopped g.R.Rng.stream c.args.project.now c.args.slot c.args.id c.args.late (record { values = []; fields = []; variables = [] }) c.args.runner.now c.args.self.now c.requires.runs c.requires.top c.rank-rank.ensures.ranks c.blocks-closed.ensures.closed _ c.params-params.ensures Arg Report c.only_input.result c.in-Err.stop c.in-Err.is c.only_input.ensures.stop
 
 pub returns-clause-stop : goal.returns-clause-stop
 returns-clause-stop g c =
-    runner_stopped g.R.Rng.stream c.args.project.now c.args.slot c.args.id c.args.late (record { values = []; fields = []; variables = [] }) c.args.runner.now c.args.self.now c.requires.runs c.requires.top c.rank-rank.ensures.ranks c.blocks-closed.ensures.closed _ c.params-params.ensures Arguments Report c.inputs.result c.in-Err.stop c.in-Err.is c.inputs.ensures.stop
+    runner_stopped g.R.Rng.stream c.args.project.now c.args.slot c.args.id c.args.late (record { values = []; fields = []; variables = [] }) c.args.runner.now c.args.self.now c.requires.runs c.requires.top c.rank-rank.ensures.ranks c.blocks-closed.ensures.closed _ c.params-params.ensures Arguments Report c.inputs.result c.in-Err-inputs.stop c.in-Err-inputs.is c.inputs.ensures.stop

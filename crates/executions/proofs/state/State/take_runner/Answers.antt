@@ -1,5 +1,5 @@
 -- The levels of the running thread are taken, and stand where they were when they are given back.
-use Rattle.std.proofs.Common.{◌≡◌, sym, ap, ◌∙◌, arith}
+use Rattle.std.proofs.Common.{ap}
 use Rattle.executions.proofs.Runs.{taken_back, taken_runs}
 use Rattle.executions.proofs.state.State.take_runner.Goals as goal
 
