@@ -1,6 +1,8 @@
 //! A block of data executed.
 
-ghost use Rattle.std.specs.Prelude.{◌≡◌, OnOk, IfOk, IfErr, false};
+ghost use Rattle.std.specs.Prelude.{◌≡◌, [], ◌∷◌, OnOk, IfOk, IfErr, false};
+ghost use Rattle.scratch_values.specs.Args.{arguments};
+ghost use Rattle.scratch_values.specs.Held.{pair_of};
 ghost use Rattle.script_machine.specs.DataRows.{data_row};
 ghost use Rattle.script_machine.specs.Outcome.{Goes, StopIs};
 ghost use Rattle.script_machine.specs.declared.threads.Context.TheVariants.{Fresh};
@@ -12,7 +14,7 @@ ghost use Rattle.data_blocks.specs.Stops.{IsOfWordsOrMemory};
 
 use crate::{list_rows, monitor_rows, variable_rows};
 use opcode_table::Opcode;
-use scratch_values::Args;
+use scratch_values::{Arg, Args, ResolvedField};
 use script_machine::{Control, InstanceId};
 use script_words::{Counted, Rng, Stop};
 use target_records::Records;
@@ -85,5 +87,37 @@ pub fn apply<R: Rng + Drop>(
     match changed(op, args, here, records, targets, variables, words) {
         Ok(()) => Ok((Control::Next, false)),
         Err(stop) => Err(stop),
+    }
+}
+
+/// Executes a block of data that has one input: what `apply` does with this argument and the fields.
+#[inline]
+pub fn apply_one<R: Rng + Drop>(
+    op: Opcode,
+    fields: &[ResolvedField],
+    first: Arg<'_>,
+    here: InstanceId,
+    records: &Records,
+    targets: &Targets,
+    variables: &mut Variables,
+    words: &mut Counted<R>,
+) -> Result<(), Stop>
+    ensures ok { OnOk result (data_row (records_in records.now) targets.now op (arguments (pair_of first.entry ∷ []) fields.now) here (parts_of R.stream variables.old words.old) ≡ Goes (record { parts = parts_of R.stream variables.new words.new; context = Fresh; control = Next; redraw = false })) }
+    ensures stop { StopIs result (data_row (records_in records.now) targets.now op (arguments (pair_of first.entry ∷ []) fields.now) here (parts_of R.stream variables.old words.old)) }
+    ensures kind { IfErr result IsOfWordsOrMemory }
+    ensures held { HasSameShape variables.old variables.new }
+{
+    match op {
+        Opcode::DataSetVariableTo => {
+            Ok(variable_rows::set_to(fields, first, here, records, variables)?)
+        }
+        Opcode::DataChangeVariableBy => {
+            variable_rows::change_by(fields, &first, here, records, variables);
+            Ok(())
+        }
+        _ => {
+            let args = Args::one(fields, first);
+            changed(op, &args, here, records, targets, variables, words)
+        }
     }
 }

@@ -8,7 +8,7 @@ mod monitor_rows;
 mod places;
 mod variable_rows;
 
-pub use applying::apply;
+pub use applying::{apply, apply_one};
 
 #[cfg(test)]
 mod tests;

@@ -38,7 +38,7 @@ fn condition(args: &Args<'_>) -> bool
 }
 
 // Where a block leads that keeps nothing and changes nothing; None of any other block.
-#[inline]
+#[inline(always)]
 pub(crate) fn way_chosen(op: Opcode, args: &Args<'_>) -> Option<Choice>
     ensures { option_map control_of result ≡ chosen op args.entry.now }
 {

@@ -9,6 +9,7 @@ mod listed;
 mod moving;
 mod opening;
 mod others;
+mod performing;
 mod rows;
 mod running;
 mod starting;

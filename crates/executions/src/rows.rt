@@ -1,6 +1,8 @@
 //! The rows of blocks on the parts of a run.
 
-ghost use Rattle.std.specs.Prelude.{◌≡◌, ◌||◌, ℕ, length, true, false, IfOk, OnOk};
+ghost use Rattle.std.specs.Prelude.{◌≡◌, ◌||◌, [], ◌∷◌, ℕ, length, true, false, IfOk, OnOk};
+ghost use Rattle.scratch_values.specs.Args.{arguments};
+ghost use Rattle.scratch_values.specs.Held.{pair_of};
 ghost use Rattle.opcode_table.specs.Kinds.{kind, group};
 ghost use Rattle.opcode_table.specs.declared.grouping.Group.TheVariants as group_of;
 ghost use Rattle.script_machine.specs.declared.threads.Control.TheVariants.{Next};
@@ -18,7 +20,7 @@ use crate::state::State;
 use cached_blocks::CachedBlock;
 use opcode_table::{Group, group};
 use project_check::Project;
-use scratch_values::Args;
+use scratch_values::{Arg, Args};
 use script_machine::{Context, Control, InstanceId, Serial};
 use script_words::{Rng, Stop};
 use std::alloc::Global;
@@ -66,6 +68,35 @@ impl<R: Rng + Drop> State<R> {
                 self.redraw = either(self.redraw, redraw_of(answer));
                 Ok(())
             }
+            Err(stop) => Err(stop),
+        }
+    }
+
+    // The row of a block of data that has one input.
+    #[inline]
+    pub(crate) fn apply_data_one(
+        &mut self,
+        project: &Project,
+        block: &CachedBlock,
+        first: Arg<'_>,
+        here: InstanceId,
+    ) -> Result<(), Stop>
+        requires { group block.now.op ≡ group_of.Data }
+        ensures ok { OnOk result ((thread : ℕ) → (context : Kept) → RowGoes R.stream project.now block.now (arguments (pair_of first.entry ∷ []) block.now.fields) here thread context self.old Fresh self.new Next) }
+        ensures kept { OnOk result (Leaves self.old self.new) }
+        ensures stop { (thread : ℕ) → (context : Kept) → RowStops R.stream project.now block.now (arguments (pair_of first.entry ∷ []) block.now.fields) here thread context self.old result }
+    {
+        match data_blocks::apply_one(
+            block.op,
+            block.fields.as_slice(),
+            first,
+            here,
+            project.records(),
+            &self.targets,
+            &mut self.variables,
+            &mut self.words,
+        ) {
+            Ok(()) => Ok(()),
             Err(stop) => Err(stop),
         }
     }

@@ -1,37 +1,23 @@
 //! One execution of the running thread.
 
-ghost use Rattle.std.specs.Prelude.{◌≡◌, ◌<◌, ℕ, length, slice_get, Some, IfOk, true, false};
-ghost use Rattle.opcode_table.specs.Kinds.{kind, group};
-ghost use Rattle.opcode_table.specs.declared.grouping.Group.TheVariants as group_of;
-ghost use Rattle.cached_blocks.specs.declared.block.CachedBlock.{CachedBlock as Cached};
+ghost use Rattle.std.specs.Prelude.{◌≡◌, ◌<◌, length, slice_get, Some, IfOk};
+ghost use Rattle.opcode_table.specs.Kinds.{group};
 ghost use Rattle.cached_blocks.specs.Cached.{cached_blocks};
-ghost use Rattle.project_file.specs.Linked.{IsClosed, AreRanks};
-ghost use Rattle.script_machine.specs.Keeping.{control_fits};
-ghost use Rattle.script_machine.specs.Laws as laws;
 ghost use Rattle.script_machine.specs.Outcome.{Goes, StopIs};
 ghost use Rattle.script_machine.specs.Step as machine;
-ghost use Rattle.script_machine.specs.declared.threads.Context.TheVariants.{Fresh};
-ghost use Rattle.script_machine.specs.declared.threads.Control.TheVariants.{Branch, Clone, Next as Passes};
-ghost use Rattle.targets.specs.Live.{IsLive};
 ghost use Rattle.thread_frames.specs.Levels.{top_block};
-ghost use Rattle.thread_moves.specs.Standing.{is_ended as has_ended};
-ghost use Rattle.project_check.specs.Loaded.{program_of, tables_of, blocks_at, ranks_at, sheet_at};
-ghost use Rattle.executions.specs.Choices.{chosen};
-ghost use Rattle.executions.specs.Rows.{Acts, Enacts};
+ghost use Rattle.project_check.specs.Loaded.{program_of, tables_of, blocks_at, sheet_at};
 ghost use Rattle.executions.specs.Runners.{IsRunner, IsRunnerAfter, after_runner, with_runner};
 ghost use Rattle.executions.specs.Seen.{seen};
 
-use crate::acting::is_own;
-use crate::choosing::{Choice, way_chosen};
-use crate::moving::{enter, go_on};
-use crate::running::{Runner, give_back};
+use crate::running::Runner;
 use crate::state::State;
 use cached_blocks::CachedBlock;
 use evaluate::{View, inputs, no_inputs, only_input};
 use opcode_table::{Group, group};
 use project_check::Project;
 use scratch_values::Args;
-use script_machine::{BlockId, Context, Control, InstanceId, Report, Serial, TargetId};
+use script_machine::{BlockId, InstanceId, Report, Serial, TargetId};
 use script_words::{Rng, Stop};
 use std::alloc::Global;
 
@@ -44,216 +30,94 @@ pub(crate) struct Next {
     pub(crate) id: BlockId,
 }
 
-// Whether the thread has ended that reports this.
-fn is_ended(report: Report) -> bool
-    ensures { result ≡ has_ended report }
-{
-    matches!(report, Report::Ended)
-}
-
 impl<R: Rng + Drop> State<R> {
-    // The row of a block of data, behind which the runner goes on.
-    #[inline]
-    fn enact_data(
-        &mut self,
-        project: &Project,
-        slot: u64,
-        runner: &mut Runner,
-        id: BlockId,
-        block: &CachedBlock,
-        args: &Args<'_>,
-        late: bool,
-    ) -> Result<Report, Stop>
-        requires runs { IsRunner project.now slot runner.old self.old }
-        requires top { top_block runner.old.levels ≡ Some id }
-        requires ranks { AreRanks (blocks_at runner.old.target project.now) (ranks_at runner.old.target project.now) }
-        requires closed { IsClosed (blocks_at runner.old.target project.now) }
-        requires block { slice_get (cached_blocks (sheet_at runner.old.target project.now)) id ≡ Some block.now }
-        requires group { group block.now.op ≡ group_of.Data }
-        ensures ok { IfOk result (λ report. Enacts R.stream project.now slot id late args.entry.now (with_runner runner.old self.old) (λ o. o ≡ Goes (record { world = seen R.stream project.now (after_runner report runner.new self.new); report = report }))) }
-        ensures after { IfOk result (λ report. IsRunnerAfter project.now slot report runner.new self.new) }
-        ensures stop { Enacts R.stream project.now slot id late args.entry.now (with_runner runner.old self.old) (StopIs result) }
-    {
-        match self.apply_data(project, block, args, runner.here) {
-            Ok(()) => Ok(go_on(project, &mut self.threads, runner, id)),
-            Err(stop) => Err(stop),
-        }
-    }
-
-    // A branch that the block of the runner chose is entered.
-    #[inline]
-    fn enter_chosen(
-        &mut self,
-        project: &Project,
-        slot: u64,
-        runner: &mut Runner,
-        id: BlockId,
-        block: &CachedBlock,
-        args: &Args<'_>,
-        number: u8,
-        is_loop: bool,
-        late: bool,
-    ) -> Result<Report, Stop>
-        requires runs { IsRunner project.now slot runner.old self.old }
-        requires top { top_block runner.old.levels ≡ Some id }
-        requires ranks { AreRanks (blocks_at runner.old.target project.now) (ranks_at runner.old.target project.now) }
-        requires closed { IsClosed (blocks_at runner.old.target project.now) }
-        requires block { slice_get (cached_blocks (sheet_at runner.old.target project.now)) id ≡ Some block.now }
-        requires chosen { chosen block.now.op args.now ≡ Some (Branch number is_loop) }
-        ensures ok { IfOk result (λ report. Enacts R.stream project.now slot id late args.entry.now (with_runner runner.old self.old) (λ o. o ≡ Goes (record { world = seen R.stream project.now (after_runner report runner.new self.new); report = report }))) }
-        ensures after { IfOk result (λ report. IsRunnerAfter project.now slot report runner.new self.new) }
-        ensures stop { Enacts R.stream project.now slot id late args.entry.now (with_runner runner.old self.old) (StopIs result) }
-    {
-        let threads = &mut self.threads;
-        enter(
-            project,
-            threads,
-            runner,
-            id,
-            number,
-            is_loop,
-            Context::Fresh,
-        )
-    }
-
-    // The runner goes on behind its block, which chose no branch.
-    #[inline]
-    fn pass_chosen(
-        &mut self,
-        project: &Project,
-        slot: u64,
-        runner: &mut Runner,
-        id: BlockId,
-        block: &CachedBlock,
-        args: &Args<'_>,
-        late: bool,
-    ) -> Report
-        requires runs { IsRunner project.now slot runner.old self.old }
-        requires top { top_block runner.old.levels ≡ Some id }
-        requires ranks { AreRanks (blocks_at runner.old.target project.now) (ranks_at runner.old.target project.now) }
-        requires closed { IsClosed (blocks_at runner.old.target project.now) }
-        requires block { slice_get (cached_blocks (sheet_at runner.old.target project.now)) id ≡ Some block.now }
-        requires chosen { chosen block.now.op args.now ≡ Some Passes }
-        ensures goes { Enacts R.stream project.now slot id late args.entry.now (with_runner runner.old self.old) (λ o. o ≡ Goes (record { world = seen R.stream project.now (after_runner result runner.new self.new); report = result })) }
-        ensures after { IsRunnerAfter project.now slot result runner.new self.new }
-    {
-        go_on(project, &mut self.threads, runner, id)
-    }
-
-    // What a control does that is not of the runner alone, whose block keeps nothing: its levels are given back before.
-    fn act_apart(
-        &mut self,
-        alloc: Global,
-        project: &Project,
-        slot: u64,
-        runner: &mut Runner,
-        id: BlockId,
-        control: Control,
-        late: bool,
-    ) -> Result<Report, Stop>
-        requires runs { IsRunner project.now slot runner.old self.old }
-        requires top { top_block runner.old.levels ≡ Some id }
-        requires held { runner.old.target < length (tables_of project.now) }
-        requires member { id < length (blocks_at runner.old.target project.now) }
-        requires own { laws.is_own control ≡ false }
-        requires clones { (original : ℕ) → control ≡ Clone original → IsLive original self.old.targets }
-        requires fits { (b : Cached) → slice_get (cached_blocks (sheet_at runner.old.target project.now)) id ≡ Some b → control_fits control (kind b.op) Fresh ≡ true }
-        ensures ok { IfOk result (λ report. Acts R.stream project.now slot id late control (with_runner runner.old self.old) (λ o. o ≡ Goes (record { world = seen R.stream project.now (after_runner report runner.new self.new); report = report }))) }
-        ensures after { IfOk result (λ report. IsRunnerAfter project.now slot report runner.new self.new) }
-        ensures stop { Acts R.stream project.now slot id late control (with_runner runner.old self.old) (StopIs result) }
-    {
-        let which = runner.which;
-        let next = runner.next(id);
-        give_back(alloc, &mut self.threads, runner);
-        match self.act_on_others(alloc, project, slot, which, next, control, late) {
-            Ok(report) => {
-                if !is_ended(report) {
-                    *runner = self.take_runner(project, slot);
-                }
-                Ok(report)
-            }
-            Err(stop) => Err(stop),
-        }
-    }
-
-    // The row of a block that may keep something, and what its control does.
-    fn enact_kept(
-        &mut self,
-        alloc: Global,
-        project: &Project,
-        slot: u64,
-        runner: &mut Runner,
-        id: BlockId,
-        block: &CachedBlock,
-        args: &Args<'_>,
-        late: bool,
-    ) -> Result<Report, Stop>
-        requires runs { IsRunner project.now slot runner.old self.old }
-        requires top { top_block runner.old.levels ≡ Some id }
-        requires held { runner.old.target < length (tables_of project.now) }
-        requires member { id < length (blocks_at runner.old.target project.now) }
-        requires ranks { AreRanks (blocks_at runner.old.target project.now) (ranks_at runner.old.target project.now) }
-        requires closed { IsClosed (blocks_at runner.old.target project.now) }
-        requires block { slice_get (cached_blocks (sheet_at runner.old.target project.now)) id ≡ Some block.now }
-        ensures ok { IfOk result (λ report. Enacts R.stream project.now slot id late args.entry.now (with_runner runner.old self.old) (λ o. o ≡ Goes (record { world = seen R.stream project.now (after_runner report runner.new self.new); report = report }))) }
-        ensures after { IfOk result (λ report. IsRunnerAfter project.now slot report runner.new self.new) }
-        ensures stop { Enacts R.stream project.now slot id late args.entry.now (with_runner runner.old self.old) (StopIs result) }
-    {
-        let here = runner.here;
-        let serial = runner.serial;
-        let context = runner.levels.take_context();
-        match self.apply(alloc, project, block, args, here, serial, context) {
-            Ok((control, context)) => {
-                if is_own(&control) {
-                    self.act_own(project, runner, id, control, context, late)
-                } else {
-                    self.act_apart(alloc, project, slot, runner, id, control, late)
-                }
-            }
-            Err(stop) => Err(stop),
-        }
-    }
-
-    // The row of the block of a runner, and what its control does; the inputs were evaluated.
+    // One execution of a block that has no input.
     #[inline(always)]
-    fn enact(
+    fn execute_none(
         &mut self,
         alloc: Global,
         project: &Project,
         slot: u64,
         runner: &mut Runner,
         id: BlockId,
-        args: &Args<'_>,
+        block: &CachedBlock,
         late: bool,
     ) -> Result<Report, Stop>
         requires runs { IsRunner project.now slot runner.old self.old }
         requires top { top_block runner.old.levels ≡ Some id }
         requires held { runner.old.target < length (tables_of project.now) }
         requires member { id < length (blocks_at runner.old.target project.now) }
-        ensures ok { IfOk result (λ report. Enacts R.stream project.now slot id late args.entry.now (with_runner runner.old self.old) (λ o. o ≡ Goes (record { world = seen R.stream project.now (after_runner report runner.new self.new); report = report }))) }
+        requires block { slice_get (cached_blocks (sheet_at runner.old.target project.now)) id ≡ Some block.now }
+        requires inputs { length block.now.inputs ≡ 0 }
+        ensures ok { IfOk result (λ report. machine.step (program_of project.now) slot late (seen R.stream project.now (with_runner runner.old self.old)) ≡ Goes (record { world = seen R.stream project.now (after_runner report runner.new self.new); report = report })) }
         ensures after { IfOk result (λ report. IsRunnerAfter project.now slot report runner.new self.new) }
-        ensures stop { Enacts R.stream project.now slot id late args.entry.now (with_runner runner.old self.old) (StopIs result) }
+        ensures stop { StopIs result (machine.step (program_of project.now) slot late (seen R.stream project.now (with_runner runner.old self.old))) }
     {
         let _rank = project.rank(runner.target, id);
         let _closed = project.blocks(runner.target);
-        let block = project.cached(runner.target, id);
+        let params = runner.levels.params();
+        let view = View {
+            project,
+            targets: &self.targets,
+            variables: &self.variables,
+            devices: &self.devices,
+            here: runner.here,
+            target: runner.target,
+            params,
+        };
+        let args = no_inputs(&view, id);
+        self.enact(alloc, project, slot, runner, id, &args, late)
+    }
+
+    // One execution of a block that has one input.
+    #[inline(always)]
+    fn execute_one(
+        &mut self,
+        alloc: Global,
+        project: &Project,
+        slot: u64,
+        runner: &mut Runner,
+        id: BlockId,
+        block: &CachedBlock,
+        late: bool,
+    ) -> Result<Report, Stop>
+        requires runs { IsRunner project.now slot runner.old self.old }
+        requires top { top_block runner.old.levels ≡ Some id }
+        requires held { runner.old.target < length (tables_of project.now) }
+        requires member { id < length (blocks_at runner.old.target project.now) }
+        requires block { slice_get (cached_blocks (sheet_at runner.old.target project.now)) id ≡ Some block.now }
+        requires inputs { length block.now.inputs ≡ 1 }
+        ensures ok { IfOk result (λ report. machine.step (program_of project.now) slot late (seen R.stream project.now (with_runner runner.old self.old)) ≡ Goes (record { world = seen R.stream project.now (after_runner report runner.new self.new); report = report })) }
+        ensures after { IfOk result (λ report. IsRunnerAfter project.now slot report runner.new self.new) }
+        ensures stop { StopIs result (machine.step (program_of project.now) slot late (seen R.stream project.now (with_runner runner.old self.old))) }
+    {
+        let _rank = project.rank(runner.target, id);
+        let _closed = project.blocks(runner.target);
+        let near = runner.levels.params();
+        let view = View {
+            project,
+            targets: &self.targets,
+            variables: &self.variables,
+            devices: &self.devices,
+            here: runner.here,
+            target: runner.target,
+            params: near,
+        };
+        let first = match only_input(alloc, &view, id, &mut self.words) {
+            Ok(first) => first,
+            Err(stop) => return Err(stop),
+        };
         if matches!(group(block.op), Group::Data) {
-            return self.enact_data(project, slot, runner, id, block, args, late);
-        }
-        match way_chosen(block.op, args) {
-            Some(Choice::Enter { number, is_loop }) => self.enter_chosen(
-                project, slot, runner, id, block, args, number, is_loop, late,
-            ),
-            Some(Choice::Pass) => {
-                Ok(self.pass_chosen(project, slot, runner, id, block, args, late))
-            }
-            None => self.enact_kept(alloc, project, slot, runner, id, block, args, late),
+            self.enact_data_one(project, slot, runner, id, block, first, late)
+        } else {
+            let args = Args::one(block.fields.as_slice(), first);
+            self.enact(alloc, project, slot, runner, id, &args, late)
         }
     }
 
-    // One execution of a runner, whose top level holds a block.
-    #[inline]
-    fn execute(
+    // One execution of a block that has any number of inputs.
+    #[inline(never)]
+    fn execute_many(
         &mut self,
         alloc: Global,
         project: &Project,
@@ -272,7 +136,6 @@ impl<R: Rng + Drop> State<R> {
     {
         let _rank = project.rank(runner.target, id);
         let _closed = project.blocks(runner.target);
-        let block = project.cached(runner.target, id);
         let params = runner.levels.params();
         let view = View {
             project,
@@ -283,22 +146,36 @@ impl<R: Rng + Drop> State<R> {
             target: runner.target,
             params,
         };
+        match &inputs(alloc, &view, id, &mut self.words) {
+            Ok(args) => self.enact(alloc, project, slot, runner, id, args, late),
+            Err(stop) => Err(*stop),
+        }
+    }
+
+    // One execution of a runner, whose top level holds a block.
+    #[inline(always)]
+    fn execute(
+        &mut self,
+        alloc: Global,
+        project: &Project,
+        slot: u64,
+        runner: &mut Runner,
+        id: BlockId,
+        late: bool,
+    ) -> Result<Report, Stop>
+        requires runs { IsRunner project.now slot runner.old self.old }
+        requires top { top_block runner.old.levels ≡ Some id }
+        requires held { runner.old.target < length (tables_of project.now) }
+        requires member { id < length (blocks_at runner.old.target project.now) }
+        ensures ok { IfOk result (λ report. machine.step (program_of project.now) slot late (seen R.stream project.now (with_runner runner.old self.old)) ≡ Goes (record { world = seen R.stream project.now (after_runner report runner.new self.new); report = report })) }
+        ensures after { IfOk result (λ report. IsRunnerAfter project.now slot report runner.new self.new) }
+        ensures stop { StopIs result (machine.step (program_of project.now) slot late (seen R.stream project.now (with_runner runner.old self.old))) }
+    {
+        let block = project.cached(runner.target, id);
         match block.inputs.len() {
-            0 => {
-                let args = no_inputs(&view, id);
-                self.enact(alloc, project, slot, runner, id, &args, late)
-            }
-            1 => match only_input(alloc, &view, id, &mut self.words) {
-                Ok(first) => {
-                    let args = Args::one(block.fields.as_slice(), first);
-                    self.enact(alloc, project, slot, runner, id, &args, late)
-                }
-                Err(stop) => Err(stop),
-            },
-            _ => match &inputs(alloc, &view, id, &mut self.words) {
-                Ok(args) => self.enact(alloc, project, slot, runner, id, args, late),
-                Err(stop) => Err(*stop),
-            },
+            0 => self.execute_none(alloc, project, slot, runner, id, block, late),
+            1 => self.execute_one(alloc, project, slot, runner, id, block, late),
+            _ => self.execute_many(alloc, project, slot, runner, id, late),
         }
     }
 
