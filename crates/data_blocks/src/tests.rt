@@ -1,12 +1,12 @@
 //! What no clause says: blocks on a stage and two sprites, and worked rows.
 
-use crate::apply;
+use crate::{apply, apply_one};
 use opcode_table::Opcode;
 use project_json::{Text, read as read_json};
 use scratch_number::{Num, of_millionths, of_whole};
 use scratch_values::{Arg, Args, BoundText, Held, ResolvedField, Value, VarRef, to_number};
 use script_machine::{Control, InstanceId};
-use script_words::{Counted, Rng, Stop};
+use script_words::{Counted, Rng, Stop, pcg};
 use std::alloc::{AllocError, Global};
 use std::process::Abort;
 use target_records::{Records, read};
@@ -14,6 +14,7 @@ use targets::Targets;
 use variables::Variables;
 
 mod blocks;
+mod one_input;
 mod places;
 
 static PROJECT: &str =
@@ -121,6 +122,28 @@ fn executed<R: Rng + Drop>(
         &world.targets,
         &mut world.variables,
         words,
+    )
+}
+
+// Executes a block of the first sprite with one input of this name.
+fn executed_by_one(
+    rt: &(impl Abort + AllocGlobal),
+    world: &mut World,
+    op: Opcode,
+    (input, given): (&str, Given),
+) -> Result<(), Stop> {
+    let fields = fields(rt.alloc(), VarRef::Own(0)).expect(rt, "memory");
+    let (name, value) = (name(rt, input), value(rt, given));
+    let mut words = pcg(0, 0);
+    apply_one(
+        op,
+        &fields,
+        lent(&name, &value),
+        ANN,
+        &world.records,
+        &world.targets,
+        &mut world.variables,
+        &mut words,
     )
 }
 
