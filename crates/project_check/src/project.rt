@@ -57,7 +57,7 @@ fn ref_in(refs: &[Resolved], in_input: bool, part: &str) -> Option<VarRef>
 }
 
 impl Project {
-    ghost use Rattle.std.specs.Prelude.{◌≡◌, ◌<◌, true, false, length, slice_get, slice_index, option_map, find, Some, IfSome};
+    ghost use Rattle.std.specs.Prelude.{◌≡◌, ◌<◌, [], true, false, length, slice_get, slice_index, option_map, unwrap_or, find, Some, IfSome};
     ghost use Rattle.std.specs.List.{All};
     ghost use Rattle.target_records.specs.Records.{records_in};
     ghost use Rattle.project_file.specs.Linked.{IsClosed, AreRanks};
@@ -178,32 +178,31 @@ impl Project {
     }
 
     /// The variable or list that a field of a block names, as it was resolved at load. `Some` exactly where the block is
-    /// in a checked script and the field is one of its opcode that names a variable or a list.
+    /// one of the target in a checked script and the field is one of its opcode that names a variable or a list.
     pub fn field_variable(&self, target: TargetId, id: BlockId, field: &str) -> Option<VarRef>
-        requires held { target < length (tables_of self.now) }
-        requires member { id < length (blocks_at target self.now) }
+        requires { target < length (tables_of self.now) }
         ensures { result ≡ told.ref_at (names_at target self.now) id false field.now }
     {
         ref_in(self.refs(target, id), false, field)
     }
 
     /// The variable or list that an input of a block is, as it was resolved at load. `Some` exactly where the block is
-    /// in a checked script and the input is a variable or a list.
+    /// one of the target in a checked script and the input is a variable or a list.
     pub fn input_variable(&self, target: TargetId, id: BlockId, input: &str) -> Option<VarRef>
-        requires held { target < length (tables_of self.now) }
-        requires member { id < length (blocks_at target self.now) }
+        requires { target < length (tables_of self.now) }
         ensures { result ≡ told.ref_at (names_at target self.now) id true input.now }
     {
         ref_in(self.refs(target, id), true, input)
     }
 
-    // What the parts of a block name.
+    // What the parts of a block name; nothing where the block is none of the target.
     fn refs(&self, target: TargetId, id: BlockId) -> &[Resolved]
-        requires held { target < length (tables_of self.now) }
-        requires member { id < length (blocks_at target self.now) }
-        ensures { slice_get (names_at target self.now) id ≡ Some result.now }
+        requires { target < length (tables_of self.now) }
+        ensures { result.now ≡ unwrap_or (slice_get (names_at target self.now) id) [] }
     {
-        let names = self.names.as_slice()[target.0 as usize].as_slice();
-        names[id.0 as usize].as_slice()
+        match self.names.as_slice()[target.0 as usize].get(id.0 as usize) {
+            Some(refs) => refs.as_slice(),
+            None => &[],
+        }
     }
 }

@@ -333,6 +333,16 @@ fn resolved(rt: &impl Abort, project: &Project) {
     assert!(rt; project.field_variable(sprite, set, "VARIABLE").is_some());
     assert!(rt; project.input_variable(sprite, set, "VALUE").is_some());
     assert!(rt; project.input_variable(sprite, set, "VARIABLE").is_none());
+    assert!(rt;
+        project
+            .field_variable(sprite, BlockId(1_000), "VARIABLE")
+            .is_none()
+    );
+    assert!(rt;
+        project
+            .input_variable(sprite, BlockId(1_000), "VALUE")
+            .is_none()
+    );
     assert!(rt; project.block(sprite, set).next.is_none());
     assert_eq!(rt; project.records().targets(), 2);
 }
