@@ -1,0 +1,21 @@
+-- Laws of the rules, as statements that public functions with empty bodies prove.
+use Rattle.std.specs.Prelude.{◌≡◌, ◌≢◌, ℕ, List, Result}
+use Rattle.saved_text.specs.Saved.{saved_text}
+use Rattle.saved_rules.specs.Basis.{Basis}
+use Rattle.saved_rules.specs.Kept.{thread}
+use Rattle.saved_rules.specs.RunShapes.{Told}
+use Rattle.saved_rules.specs.Refusals.{IsJudged, IsAccepted, IsRefused}
+use Rattle.saved_rules.specs.declared.refusals.SaveRefusal.{SaveRefusal}
+use Rattle.saved_rules.specs.declared.refusals.SaveRefusal.TheVariants.{NoMemory}
+
+-- bytes have one answer at most: they tell one run, or are refused in one way
+abbrev pub OneAnswer : Type 0
+OneAnswer = (b : Basis) (digest bytes : List ℕ) (r s : Result Told SaveRefusal) → IsJudged b digest bytes r → IsJudged b digest bytes s → r ≡ s
+
+-- of two refusals of the same bytes, other than want of memory, both are the same
+abbrev pub OneRefusal : Type 0
+OneRefusal = (b : Basis) (digest bytes : List ℕ) (r s : SaveRefusal) → r ≢ NoMemory → s ≢ NoMemory → IsRefused b digest bytes r → IsRefused b digest bytes s → r ≡ s
+
+-- bytes that are accepted are the saved text of what they tell
+abbrev pub WrittenAsRead : Type 0
+WrittenAsRead = (b : Basis) (digest bytes : List ℕ) (t : Told) → IsAccepted b digest bytes t → bytes ≡ saved_text thread t.run

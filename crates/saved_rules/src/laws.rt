@@ -1,0 +1,14 @@
+//! Laws of the rules, each the contract of a function with an empty body.
+
+ghost use Rattle.saved_rules.specs.Laws.{OneAnswer, OneRefusal, WrittenAsRead};
+
+/// Bytes tell one run at most, or are refused in one way at most, and not both.
+pub fn one_answer_at_most()
+    ensures accepted { OneAnswer }
+    ensures refused { OneRefusal }
+{}
+
+/// Bytes that are accepted are just the saved text of what they tell.
+pub fn an_accepted_text_is_what_is_written()
+    ensures { WrittenAsRead }
+{}
