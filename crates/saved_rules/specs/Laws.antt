@@ -1,8 +1,11 @@
 -- Laws of the rules, as statements that public functions with empty bodies prove.
 use Rattle.std.specs.Prelude.{◌≡◌, ◌≢◌, ℕ, List, Result}
-use Rattle.saved_text.specs.Saved.{saved_text}
+use Rattle.script_machine.specs.Tasks.{Task}
+use Rattle.saved_text.specs.Saved.{Snapshot, saved, saved_text}
+use Rattle.saved_text.specs.Tasks.{task}
 use Rattle.saved_rules.specs.Basis.{Basis}
 use Rattle.saved_rules.specs.Kept.{thread}
+use Rattle.saved_rules.specs.Legal.{told}
 use Rattle.saved_rules.specs.RunShapes.{Told}
 use Rattle.saved_rules.specs.Refusals.{IsJudged, IsAccepted, IsRefused}
 use Rattle.saved_rules.specs.declared.refusals.SaveRefusal.{SaveRefusal}
@@ -15,6 +18,10 @@ OneAnswer = (b : Basis) (digest bytes : List ℕ) (r s : Result Told SaveRefusal
 -- of two refusals of the same bytes, other than want of memory, both are the same
 abbrev pub OneRefusal : Type 0
 OneRefusal = (b : Basis) (digest bytes : List ℕ) (r s : SaveRefusal) → r ≢ NoMemory → s ≢ NoMemory → IsRefused b digest bytes r → IsRefused b digest bytes s → r ≡ s
+
+-- what the text of a run of the machine tells is written as the run is
+abbrev pub TellsWhatIsSaved : Type 0
+TellsWhatIsSaved = (s : Snapshot Task) → saved task s ≡ saved thread (told s).run
 
 -- bytes that are accepted are the saved text of what they tell
 abbrev pub WrittenAsRead : Type 0

@@ -1,6 +1,6 @@
 //! Laws of the rules, each the contract of a function with an empty body.
 
-ghost use Rattle.saved_rules.specs.Laws.{OneAnswer, OneRefusal, WrittenAsRead};
+ghost use Rattle.saved_rules.specs.Laws.{OneAnswer, OneRefusal, TellsWhatIsSaved, WrittenAsRead};
 
 /// Bytes tell one run at most, or are refused in one way at most, and not both.
 pub fn one_answer_at_most()
@@ -11,4 +11,9 @@ pub fn one_answer_at_most()
 /// Bytes that are accepted are just the saved text of what they tell.
 pub fn an_accepted_text_is_what_is_written()
     ensures { WrittenAsRead }
+{}
+
+/// What a text tells of a run of the machine is written just as the run is.
+pub fn a_saved_run_tells_its_world()
+    ensures { TellsWhatIsSaved }
 {}

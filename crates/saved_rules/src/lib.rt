@@ -4,6 +4,10 @@
 
 mod laws;
 mod refusals;
+#[cfg(test)]
+mod tests;
 
-pub use laws::{an_accepted_text_is_what_is_written, one_answer_at_most};
+pub use laws::{
+    a_saved_run_tells_its_world, an_accepted_text_is_what_is_written, one_answer_at_most,
+};
 pub use refusals::SaveRefusal;
