@@ -1,11 +1,12 @@
 -- Laws of the rules, as statements that public functions with empty bodies prove.
-use Rattle.std.specs.Prelude.{◌≡◌, ◌≢◌, ℕ, List, Result}
+use Rattle.std.specs.Prelude.{◌≡◌, ◌≢◌, true, ℕ, List, Result}
 use Rattle.script_machine.specs.Tasks.{Task}
 use Rattle.saved_text.specs.Saved.{Snapshot, saved, saved_text}
 use Rattle.saved_text.specs.Tasks.{task}
 use Rattle.saved_rules.specs.Basis.{Basis}
-use Rattle.saved_rules.specs.Kept.{thread}
-use Rattle.saved_rules.specs.Legal.{told}
+use Rattle.saved_rules.specs.Kept.{SavedThread, thread, thread_told}
+use Rattle.saved_rules.specs.Legal.{told, IsLegalThread}
+use Rattle.saved_rules.specs.Levels.{thread_is_well}
 use Rattle.saved_rules.specs.RunShapes.{Told}
 use Rattle.saved_rules.specs.Refusals.{IsJudged, IsAccepted, IsRefused}
 use Rattle.saved_rules.specs.declared.refusals.SaveRefusal.{SaveRefusal}
@@ -22,6 +23,12 @@ OneRefusal = (b : Basis) (digest bytes : List ℕ) (r s : SaveRefusal) → r ≢
 -- what the text of a run of the machine tells is written as the run is
 abbrev pub TellsWhatIsSaved : Type 0
 TellsWhatIsSaved = (s : Snapshot Task) → saved task s ≡ saved thread (told s).run
+
+-- a thread of a text that keeps the rules is what the text of a legal thread of the machine tells
+abbrev pub ThreadsAreLegal : Type 0
+ThreadsAreLegal =
+    (b : Basis) (t : Told) (x : SavedThread) → thread_is_well b t x ≡ true
+    → (of_machine : Task) × (thread_told of_machine ≡ x) × IsLegalThread b t.run.targets t.run.devices of_machine
 
 -- bytes that are accepted are the saved text of what they tell
 abbrev pub WrittenAsRead : Type 0

@@ -6,7 +6,8 @@ use Rattle.script_machine.specs.Line.{key_name}
 use Rattle.script_machine.specs.Pending.{Item, Do, Held, Returned, Branch, Again, Back}
 use Rattle.script_machine.specs.Program.{Program}
 use Rattle.script_machine.specs.Script.{Script, Then}
-use Rattle.script_machine.specs.Stores.{instance_at}
+use Rattle.script_machine.specs.declared.instance.Instance.{Instance}
+use Rattle.script_machine.specs.Stores.{Devices, instance_at}
 use Rattle.script_machine.specs.Tasks.{Task}
 use Rattle.saved_text.specs.Saved.{Snapshot, saved, saved_text}
 use Rattle.saved_rules.specs.Basis.{Basis, script_under}
@@ -60,12 +61,13 @@ abbrev pub StandsIn : Program → Script → List Item → (warp : Bool) → Typ
 StandsIn p hat [] warp = warp ≡ false
 StandsIn p hat (x ∷ rest) warp = StandsFirst p hat x rest warp × AllStand p hat rest
 
--- a thread: the script under its hat, its levels in their places, and the rules on what it has still to do
-pub record IsLegalThread (b : Basis) (s : Snapshot Task) (t : Task) : Type 0 where
+-- a thread, among these instances and devices: the script under its hat, its levels in their places, and the rules on what
+-- it has still to do
+pub record IsLegalThread (b : Basis) (targets : List Instance) (d : Devices) (t : Task) : Type 0 where
   pub hat : Script
-  pub under : script_under (instance_at t.of s.targets).of t.hat b ≡ Some hat
+  pub under : script_under (instance_at t.of targets).of t.hat b ≡ Some hat
   pub stands : StandsIn b.program hat t.items t.warp
-  pub well : stands_well b.program s.devices t.serial t.status t.items ≡ true
+  pub well : stands_well b.program d t.serial t.status t.items ≡ true
 
 -- A run that can be saved: it has the shape of the format, its value telling it whole, in texts that are UTF-8; it breaks
 -- no rule; and each thread is legal.
@@ -73,4 +75,4 @@ pub record IsLegal (b : Basis) (s : Snapshot Task) : Type 0 where
   pub shape : run [] (saved thread (told s).run) ≡ Ok (told s)
   pub utf8 : IsUtf8 (saved_text thread (told s).run)
   pub rules : broken b (told s) ≡ None
-  pub threads : All (IsLegalThread b s) s.threads
+  pub threads : All (IsLegalThread b s.targets s.devices) s.threads

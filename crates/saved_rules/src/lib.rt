@@ -8,6 +8,7 @@ mod refusals;
 mod tests;
 
 pub use laws::{
-    a_saved_run_tells_its_world, an_accepted_text_is_what_is_written, one_answer_at_most,
+    a_saved_run_tells_its_world, a_thread_that_is_accepted_is_legal,
+    an_accepted_text_is_what_is_written, one_answer_at_most,
 };
 pub use refusals::SaveRefusal;
