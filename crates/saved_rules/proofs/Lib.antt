@@ -1,4 +1,5 @@
 pub mod Accepted
+pub mod Placed
 pub mod Rows
 pub mod Spelled
 pub mod Standing

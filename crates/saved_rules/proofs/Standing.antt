@@ -17,12 +17,12 @@ same_some a b h = cc
 -- Chains
 
 -- a script that begins with the block, and is the end of one of these
-record Begins (k : ℕ) (u : Script) (Ends : Script → Type 0) : Type 0 where
-  s : Statement
-  rest : Script
-  is : u ≡ Then s rest
-  block : (place_of s).block ≡ k
-  ends : Ends u
+pub record Begins (k : ℕ) (u : Script) (Ends : Script → Type 0) : Type 0 where
+  pub s : Statement
+  pub rest : Script
+  pub is : u ≡ Then s rest
+  pub block : (place_of s).block ≡ k
+  pub ends : Ends u
 
 from_if : (c : Bool) (k : ℕ) (s : Statement) (rest u : Script) → (c ≡ true → (place_of s).block ≡ k) → (script_from k rest ≡ Some u → Begins k u (λ t. EndOf t rest))
     → (if c then Some (Then s rest) else script_from k rest) ≡ Some u → Begins k u (λ t. EndOf t (Then s rest))
@@ -38,7 +38,7 @@ among_or : (k : ℕ) (script : Script) (more : List Script) (u : Script) (o : Op
 among_or k script more u (Some v) e rest h = let b = from k script u (e ∙ h) in record { s = b.s; rest = b.rest; is = b.is; block = b.block; ends = inl b.ends }
 among_or k script more u None e rest h = let b = rest h in record { s = b.s; rest = b.rest; is = b.is; block = b.block; ends = inr b.ends }
 
-among : (k : ℕ) (scripts : List Script) (u : Script) → script_among k scripts ≡ Some u → Begins k u (λ t. EndOfOne t scripts)
+pub among : (k : ℕ) (scripts : List Script) (u : Script) → script_among k scripts ≡ Some u → Begins k u (λ t. EndOfOne t scripts)
 among k [] u h = absurd (cc h)
 among k (script ∷ more) u h = among_or k script more u (script_from k script) refl (among k more u) h
 

@@ -5,7 +5,7 @@ use Rattle.saved_text.specs.Saved.{Snapshot, saved, saved_text}
 use Rattle.saved_text.specs.Tasks.{task}
 use Rattle.saved_rules.specs.Basis.{Basis}
 use Rattle.saved_rules.specs.Kept.{SavedThread, thread, thread_told}
-use Rattle.saved_rules.specs.Legal.{told, IsLegalThread}
+use Rattle.saved_rules.specs.Legal.{told, IsLegalThread, BlocksAgree}
 use Rattle.saved_rules.specs.Levels.{thread_is_well}
 use Rattle.saved_rules.specs.RunShapes.{Told}
 use Rattle.saved_rules.specs.Refusals.{IsJudged, IsAccepted, IsRefused}
@@ -29,6 +29,12 @@ abbrev pub ThreadsAreLegal : Type 0
 ThreadsAreLegal =
     (b : Basis) (t : Told) (x : SavedThread) → thread_is_well b t x ≡ true
     → (of_machine : Task) × (thread_told of_machine ≡ x) × IsLegalThread b t.run.targets t.run.devices of_machine
+
+-- what the text of a legal thread of the machine tells keeps the rules, where each block begins one script
+abbrev pub LegalThreadsAreTold : Type 0
+LegalThreadsAreTold =
+    (b : Basis) (t : Told) (x : Task) (legal : IsLegalThread b t.run.targets t.run.devices x) → BlocksAgree b.program legal.hat
+    → thread_is_well b t (thread_told x) ≡ true
 
 -- bytes that are accepted are the saved text of what they tell
 abbrev pub WrittenAsRead : Type 0

@@ -1,11 +1,11 @@
 -- Which runs can be saved and read back: what the machine's world can be between two lines of a script.
-use Rattle.std.specs.Prelude.{◌≡◌, List, [], ◌∷◌, map, Bool, true, false, None, Some, Ok, IsUtf8}
+use Rattle.std.specs.Prelude.{◌≡◌, ℕ, List, [], ◌∷◌, map, Bool, true, false, None, Some, Ok, IsUtf8}
 use Rattle.std.specs.List.{All}
-use Rattle.script_machine.specs.Legal.{Stands, script_of}
+use Rattle.script_machine.specs.Legal.{EndOfOne, Stands, script_of, scripts_on}
 use Rattle.script_machine.specs.Line.{key_name}
 use Rattle.script_machine.specs.Pending.{Item, Do, Held, Returned, Branch, Again, Back}
 use Rattle.script_machine.specs.Program.{Program}
-use Rattle.script_machine.specs.Script.{Script, Then}
+use Rattle.script_machine.specs.Script.{Script, Then, Statement, place_of}
 use Rattle.script_machine.specs.declared.instance.Instance.{Instance}
 use Rattle.script_machine.specs.Stores.{Devices, instance_at}
 use Rattle.script_machine.specs.Tasks.{Task}
@@ -68,6 +68,12 @@ pub record IsLegalThread (b : Basis) (targets : List Instance) (d : Devices) (t 
   pub under : script_under (instance_at t.of targets).of t.hat b ≡ Some hat
   pub stands : StandsIn b.program hat t.items t.warp
   pub well : stands_well b.program d t.serial t.status t.items ≡ true
+
+-- A block begins one script, wherever levels over the script under the hat may hold it. So it is in a project, where the
+-- script at a block is told by the block.
+pub record BlocksAgree (p : Program) (hat : Script) : Type 0 where
+  pub script_at : ℕ → Script
+  pub agree : (under : List Item) (s : Statement) (rest : Script) → AllStand p hat under → EndOfOne (Then s rest) (scripts_on p hat under) → Then s rest ≡ script_at (place_of s).block
 
 -- A run that can be saved: it has the shape of the format, its value telling it whole, in texts that are UTF-8; it breaks
 -- no rule; and each thread is legal.

@@ -1,6 +1,6 @@
 //! Laws of the rules, each the contract of a function with an empty body.
 
-ghost use Rattle.saved_rules.specs.Laws.{OneAnswer, OneRefusal, TellsWhatIsSaved, ThreadsAreLegal, WrittenAsRead};
+ghost use Rattle.saved_rules.specs.Laws.{LegalThreadsAreTold, OneAnswer, OneRefusal, TellsWhatIsSaved, ThreadsAreLegal, WrittenAsRead};
 
 /// Bytes tell one run at most, or are refused in one way at most, and not both.
 pub fn one_answer_at_most()
@@ -21,4 +21,9 @@ pub fn a_saved_run_tells_its_world()
 /// A thread of a saved run that keeps the rules is told by some thread of the machine that is legal.
 pub fn a_thread_that_is_accepted_is_legal()
     ensures { ThreadsAreLegal }
+{}
+
+/// What a text tells of a legal thread of the machine keeps the rules, where each block begins one script.
+pub fn a_legal_thread_is_accepted()
+    ensures { LegalThreadsAreTold }
 {}

@@ -8,7 +8,7 @@ mod refusals;
 mod tests;
 
 pub use laws::{
-    a_saved_run_tells_its_world, a_thread_that_is_accepted_is_legal,
+    a_legal_thread_is_accepted, a_saved_run_tells_its_world, a_thread_that_is_accepted_is_legal,
     an_accepted_text_is_what_is_written, one_answer_at_most,
 };
 pub use refusals::SaveRefusal;
