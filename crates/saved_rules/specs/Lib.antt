@@ -1,0 +1,12 @@
+pub mod Basis
+pub mod Kept
+pub mod Shapes
+pub mod ThreadShapes
+pub mod InstanceShapes
+pub mod RunShapes
+pub mod Rules
+pub mod Threads
+pub mod Levels
+pub mod Legal
+pub mod Refusals
+pub mod Laws
