@@ -1,5 +1,9 @@
-pub mod Words
+pub mod Naming
 pub mod Counts
 pub mod Places
 pub mod Advice
 pub mod Text
+pub mod Verdict
+pub mod Promise
+pub mod Stages
+pub mod Told

@@ -11,7 +11,7 @@ ghost use Rattle.report.specs.Text.{line, accepted_text, block_place, opcode_pla
 use crate::advice::{change, rule_of, why};
 use crate::counts::Counts;
 use crate::places::{block_at, id_of, kind_of, name_of, opcode_of, target_at};
-use crate::words::{push_natural, push_quoted, push_text};
+use crate::pieces::{push_natural, push_quoted, push_text};
 use project_file::{At, Refusal};
 use project_json::{Json, JsonRefusal};
 use std::alloc::{AllocError, Global};

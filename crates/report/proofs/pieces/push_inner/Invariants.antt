@@ -1,7 +1,7 @@
 use Rattle.std.proofs.Common.{◌≡◌, ◌++◌, drop}
 use Rattle.std.specs.Prelude.{flat_map}
 use Rattle.script_machine.specs.FrameText.{escaped}
-use Rattle.report.proofs.words.push_inner.Given as goal
+use Rattle.report.proofs.pieces.push_inner.Given as goal
 
 -- the bytes so far, and then those that are left
 abbrev pub invariant-loop-byte : goal.invariant-loop-byte
