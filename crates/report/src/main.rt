@@ -77,3 +77,6 @@ fn main(rt: HostRuntime) -> ExitCode {
     tell(&rt, &status);
     ExitCode::from(exit_number(&status))
 }
+
+#[cfg(test)]
+mod tests;
