@@ -20,6 +20,7 @@ use Rattle.report.specs.Stages.{ToldOf}
 use Rattle.report.specs.declared.status.Status.{Status}
 use Rattle.report.specs.declared.status.Status.TheVariants.{Done, Usage, ReadFault, WriteFault, BadProject, TooLarge, NoMemory}
 use Rattle.report.specs.Promise.{project_limit, AnswerCause, Ending, said, too_large, ending_of, OfFile, Promised}
+use Rattle.report.specs.Unknown.{AreUnknown, all_unknown, tables_in}
 use Rattle.report.specs.Verdict.{Verdict, accepted, refused, IsDocument, IsCounted, IsVerdict, refusal_in}
 use Rattle.report.specs.declared.counts.Counts.{Counts}
 
@@ -66,11 +67,19 @@ one_document bytes None (Some t) p q = absurd (p t q)
 one_document bytes (Some t) None p q = absurd (q t p)
 one_document bytes (Some t) (Some u) p q = ap Some (json_one_tree max_depth max_depth bytes t u p.1 q.1)
 
+-- the names of its unknown blocks
+one_unknown : (tables : List (List Block)) (a b : List (List ℕ)) → AreUnknown tables a → AreUnknown tables b → a ≡ b
+one_unknown tables a b p q = p.is ∙ ap (all_unknown tables) (all_same_flags tables p.flags q.flags p.checked q.checked) ∙ sym q.is
+
 pub one_verdict : (bytes : List ℕ) (v w : Verdict) → IsVerdict bytes v → IsVerdict bytes w → v ≡ w
 one_verdict bytes (accepted c) (accepted d) p q = ap accepted (one_counted bytes c d p q)
-one_verdict bytes (accepted c) (refused r t) p q = absurd (accepted_is_not_refused json_laws bytes p.0 r p.1 q.0)
-one_verdict bytes (refused r t) (accepted c) p q = absurd (accepted_is_not_refused json_laws bytes q.0 r q.1 p.0)
-one_verdict bytes (refused r t) (refused s u) p q = ap (λ x. refused x t) (one_refusal json_laws bytes r s p.0 q.0) ∙ ap (refused s) (one_document bytes t u p.1 q.1)
+one_verdict bytes (accepted c) (refused r t names) p q = absurd (accepted_is_not_refused json_laws bytes p.0 r p.1 q.0)
+one_verdict bytes (refused r t names) (accepted c) p q = absurd (accepted_is_not_refused json_laws bytes q.0 r q.1 p.0)
+one_verdict bytes (refused r t a) (refused s u b) p q =
+    let same = one_document bytes t u p.1 q.1 in
+    ap (λ x. refused x t a) (one_refusal json_laws bytes r s p.0 q.0)
+    ∙ ap (λ x. refused s x a) same
+    ∙ ap (refused s u) (one_unknown (tables_in u) a b (subst (λ x. AreUnknown (tables_in x) a) same p.2) q.2)
 
 -- Where a file was fetched
 
@@ -112,9 +121,9 @@ always P (Some files) name p = λ w of_file. p (ending_of (get files name) w)
 -- what was told of a verdict tells its ending
 pub told_cause : (fetch_failed wanted write_failed : Type 0) (v : Verdict) (r : Option Refusal) (status : Status) → r ≡ refusal_in v → ToldOf r write_failed status → AnswerCause fetch_failed wanted (said v) status
 told_cause f w k (accepted c) r Done e h = (c, refl)
-told_cause f w k (refused s d) r Done e h = absurd (let same : Some s ≡ None = sym e ∙ h in cc)
+told_cause f w k (refused s d names) r Done e h = absurd (let same : Some s ≡ None = sym e ∙ h in cc)
 told_cause f w k (accepted c) r (BadProject t) e h = absurd (let same : None ≡ Some t = sym e ∙ h in cc)
-told_cause f w k (refused s d) r (BadProject t) e h = (d, ap (λ x. said (refused x d)) (same_Some s t (sym e ∙ h)))
+told_cause f w k (refused s d names) r (BadProject t) e h = (d, names, ap (λ x. said (refused x d names)) (same_Some s t (sym e ∙ h)))
 told_cause f w k v r WriteFault e h = tt
 told_cause f w k v r NoMemory e h = inr tt
 told_cause f w k v r Usage e h = absurd h

@@ -41,7 +41,7 @@ text_of (said v) = verdict_text v
 -- the status tells the ending
 abbrev pub Tells : Status → Ending → Type 0
 Tells Done ending = (c : Counts) × (ending ≡ said (accepted c))
-Tells (BadProject r) ending = (document : Option Tree) × (ending ≡ said (refused r document))
+Tells (BadProject r) ending = (document : Option Tree) × (names : List (List ℕ)) × (ending ≡ said (refused r document names))
 Tells (TooLarge limit) ending = ending ≡ too_large limit
 Tells Usage ending = ⊥
 Tells ReadFault ending = ⊥

@@ -9,11 +9,8 @@ use Rattle.project_file.specs.declared.refusals.Refusal.{Refusal}
 use Rattle.project_file.specs.declared.refusals.Refusal.TheVariants as refusal
 use Rattle.report.specs.declared.counts.Counts.{Counts}
 use Rattle.report.specs.Advice.{rule_of, why, change}
+use Rattle.report.specs.Lines.{line}
 use Rattle.report.specs.Places.{target_at, kind_of, name_of, block_at, id_of, opcode_of}
-
--- a line that begins so
-abbrev pub line : List ℕ → List ℕ → List ℕ
-line begin end = begin ++ (end ++ 10 ∷ [])
 
 -- A project that loads
 

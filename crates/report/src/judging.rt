@@ -1,21 +1,24 @@
 //! What is said of the bytes of a project file.
 
-ghost use Rattle.std.specs.Prelude.{◌≡◌, ◌<◌, ◌^◌, length, Some, None, IfOk, IfSome, IsSome};
+ghost use Rattle.std.specs.Prelude.{◌≡◌, ◌<◌, ◌^◌, ◌++◌, length, Some, None, IfOk, IfSome, IsSome};
 ghost use Rattle.std.specs.Option.{option_map};
 ghost use Rattle.project_json.specs.View.{tree};
 ghost use Rattle.project_file.specs.Refusals.{IsRefusal};
 ghost use Rattle.report.specs.Advice.{rule_of};
 ghost use Rattle.report.specs.Stages.{IsJudged, IsLoaded};
 ghost use Rattle.report.specs.Text.{refusal_text};
+ghost use Rattle.report.specs.Unknown.{AreUnknown, tables_in, unknown_text};
+ghost use Rattle.report.specs.UnknownStages.{IsSmallDocument};
 ghost use Rattle.report.specs.Verdict.{IsDocument, IsCounted};
 
 use crate::advice::rule_of;
 use crate::counting::count;
 use crate::counts::Counts;
 use crate::text::{accepted_text, push_refusal};
+use crate::unknown::{push_unknown, unknown_in};
 use project_check::load;
 use project_file::Refusal;
-use project_json::{Json, JsonRefusal, read};
+use project_json::{Json, JsonRefusal, Text, Texts, read};
 use std::alloc::{AllocError, Global};
 
 /// What is said of a file: the text, and the refusal of a project that is refused.
@@ -55,7 +58,9 @@ fn load_file(alloc: Global, bytes: &[u8]) -> Result<Loaded, AllocError>
 
 // The document of a file that is a JSON text.
 fn document(alloc: Global, bytes: &[u8]) -> Result<Option<Json>, AllocError>
-    ensures { IfOk result (λ document. IsDocument bytes.now (option_map tree document)) }
+    requires { length bytes.now < 2 ^ 32 }
+    ensures document { IfOk result (λ document. IsDocument bytes.now (option_map tree document)) }
+    ensures small { IfOk result (λ document. IsSmallDocument (option_map tree document)) }
 {
     match read(alloc, bytes) {
         Ok(document) => Ok(Some(document)),
@@ -76,27 +81,39 @@ fn lent(document: &Option<Json>) -> Option<&Json>
     }
 }
 
-// Why a file is refused, and what to change.
+// The opcodes of the blocks in scripts that are not known.
+fn unknown_of(alloc: Global, document: &Option<Json>) -> Result<Texts, AllocError>
+    requires { IsSmallDocument (option_map tree document.now) }
+    ensures { IfOk result (AreUnknown (tables_in (option_map tree document.now))) }
+{
+    unknown_in(alloc, lent(document))
+}
+
+// Why a file is refused, what to change, and which blocks are not known.
 fn refused_text(
     alloc: Global,
     document: &Option<Json>,
     refusal: &Refusal,
+    names: &[Text],
 ) -> Result<Vec<u8>, AllocError>
-    ensures { IfOk result (λ text. text.items ≡ refusal_text (option_map tree document.now) refusal.now) }
+    ensures { IfOk result (λ text. text.items ≡ refusal_text (option_map tree document.now) refusal.now ++ unknown_text names.now) }
 {
     let mut text = Vec::new(alloc);
     push_refusal(&mut text, lent(document), refusal)?;
+    push_unknown(alloc, &mut text, names)?;
     Ok(text)
 }
 
 // What is said of a file that is refused.
 fn judge_refused(alloc: Global, bytes: &[u8], refusal: Refusal) -> Result<Judged, AllocError>
+    requires few { length bytes.now < 2 ^ 32 }
     requires refused { IsRefusal bytes.now refusal }
     requires rule { IsSome (rule_of refusal) }
     ensures { IfOk result (IsJudged bytes.now) }
 {
     let document = document(alloc, bytes)?;
-    let text = refused_text(alloc, &document, &refusal)?;
+    let names = unknown_of(alloc, &document)?;
+    let text = refused_text(alloc, &document, &refusal, names.as_slice())?;
     Ok(Judged {
         text,
         refusal: Some(refusal),

@@ -13,6 +13,7 @@ mod scripts;
 mod status;
 mod text;
 mod top;
+mod unknown;
 
 use status::{Status, exit_number, told};
 use std::alloc::AllocError;

@@ -102,7 +102,7 @@ static REFUSED: [(&str, &str, &str, &str, &str); 9] = [
         "P5",
         "block \"a2\", opcode \"pen_clear\"",
         "The player does not know the block.",
-        "Take the block out of the script; where it lies loose it does no harm.",
+        "Take the block out of the script; where it lies loose it does no harm.\nNot known, in scripts: \"pen_clear\" 1",
     ),
     (
         "{\"a1\":{\"opcode\":\"event_whenflagclicked\",\"next\":\"a2\",\"topLevel\":true},\"a2\":{\"opcode\":\"motion_xposition\"}}",
@@ -264,6 +264,28 @@ fn bytes_that_are_refused(rt: HostRuntime) -> Result<(), Fail> {
     Ok(())
 }
 
+const TWO_PENS: &str =
+    "{\"s1\":{\"opcode\":\"event_whenflagclicked\",\"next\":\"s2\",\"topLevel\":true},\"s2\":{\"opcode\":\"pen_penDown\",\"next\":\"s3\"},\"s3\":{\"opcode\":\"pen_clear\"}}";
+
+// Touching with its menu and a pen in a script, and a drum that lies loose.
+const TOUCHING: &str =
+    "{\"a1\":{\"opcode\":\"event_whenflagclicked\",\"next\":\"a2\",\"topLevel\":true},\"a2\":{\"opcode\":\"control_if\",\"next\":\"a4\",\"inputs\":{\"CONDITION\":[2,\"a3\"]}},\"a3\":{\"opcode\":\"sensing_touchingobject\",\"inputs\":{\"TOUCHINGOBJECTMENU\":[1,\"m1\"]}},\"m1\":{\"opcode\":\"sensing_touchingobjectmenu\",\"fields\":{\"TOUCHINGOBJECTMENU\":[\"_mouse_\"]},\"shadow\":true},\"a4\":{\"opcode\":\"pen_penDown\"},\"a5\":{\"opcode\":\"music_playDrumForBeats\",\"topLevel\":true}}";
+
+#[test]
+fn blocks_that_are_not_known(rt: HostRuntime) -> Result<(), Fail> {
+    let alloc = rt.alloc();
+    let file = project(alloc, TWO_PENS, "\"Cat\"", TOUCHING)?;
+    let text = refused(
+        alloc,
+        "P5",
+        "stage \"Stage\", block \"s2\", opcode \"pen_penDown\"",
+        "The player does not know the block.",
+        "Take the block out of the script; where it lies loose it does no harm.\nNot known, in scripts: \"pen_penDown\" 2\nNot known, in scripts: \"pen_clear\" 1\nNot known, in scripts: \"sensing_touchingobject\" 1",
+    )?;
+    says(&rt, alloc, file.as_bytes(), "BadProject P5", 4, text.as_str())?;
+    Ok(())
+}
+
 #[test]
 fn names_are_quoted(rt: HostRuntime) -> Result<(), Fail> {
     let alloc = rt.alloc();
@@ -313,8 +335,13 @@ fn files_that_are_not_fetched(rt: HostRuntime) -> Result<(), Fail> {
         let status = report(alloc, &words_of(alloc, words)?, &mut shelf, &mut out);
         is_told(&rt, &status, out.written(), "ReadFault", 2, b"");
     }
-    let large = vec![in alloc; b' '; 33_554_433]?;
-    says(&rt, alloc, &large, "TooLarge", 8, "")?;
+    Ok(())
+}
+
+#[test]
+fn a_project_above_its_limit(rt: HostRuntime) -> Result<(), Fail> {
+    let large = vec![in rt.alloc(); b' '; 33_554_433]?;
+    says(&rt, rt.alloc(), &large, "TooLarge", 8, "")?;
     Ok(())
 }
 

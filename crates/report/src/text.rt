@@ -6,7 +6,8 @@ ghost use Rattle.std.specs.Fmt.{decimal};
 ghost use Rattle.project_json.specs.View.{tree};
 ghost use Rattle.script_machine.specs.FrameText.{quoted};
 ghost use Rattle.report.specs.Advice.{rule_of};
-ghost use Rattle.report.specs.Text.{line, accepted_text, block_place, opcode_place, place, rule_line, place_line, advice_lines, refusal_text};
+ghost use Rattle.report.specs.Lines.{line};
+ghost use Rattle.report.specs.Text.{accepted_text, block_place, opcode_place, place, rule_line, place_line, advice_lines, refusal_text};
 
 use crate::advice::{change, rule_of, why};
 use crate::counts::Counts;
@@ -26,8 +27,8 @@ fn push_count(out: &mut Vec<u8>, begin: &str, number: u32) -> Result<(), AllocEr
     Ok(())
 }
 
-// Appends a line that tells a text.
-fn push_line(out: &mut Vec<u8>, begin: &str, end: &str) -> Result<(), AllocError>
+/// Appends a line that tells a text.
+pub(crate) fn push_line(out: &mut Vec<u8>, begin: &str, end: &str) -> Result<(), AllocError>
     ensures { OnOk result (out.new.items ≡ out.old.items ++ line begin.now end.now) }
 {
     push_text(out, begin)?;
