@@ -1,10 +1,9 @@
 -- The names of unknown blocks, gathered target by target, and how small a document is.
-use Rattle.std.proofs.Common.{◌≡◌, ℕ, zero, suc, ◌+◌, ◌<◌, ◌≤◌, ◌^◌, Bool, List, [], ◌∷◌, ◌++◌, length, map, take, get_or, Option, None, Some, Ok, refl, sym, ap, ◌∙◌, subst, arith, append_assoc, append-nil}
+use Rattle.std.proofs.Common.{◌≡◌, ℕ, ◌+◌, ◌<◌, ◌≤◌, ◌^◌, Bool, List, [], ◌∷◌, ◌++◌, length, map, take, get_or, Option, None, Some, refl, sym, ap, ◌∙◌, subst, arith, append_assoc, append-nil}
 use Rattle.std.specs.Prelude.{codes, unwrap_or, IfSome}
-use Rattle.std.specs.List.{AllZip}
 use Rattle.std.proofs.lemmas.List.{take_more, map_push, take_all}
 use Rattle.project_json.specs.Tree.{Tree, null, truth, number, text, list, object, trees_of, field_list}
-use Rattle.project_json.specs.Parts.{member_of, members_in, items_in, value_named}
+use Rattle.project_json.specs.Parts.{member_of, members_in, items_in}
 use Rattle.project_json.specs.Size.{size_of, items_size}
 use Rattle.project_json.specs.View.{tree}
 use Rattle.project_json.specs.declared.json.Json.{Json}
@@ -15,7 +14,7 @@ use Rattle.project_check.proofs.Room.{few_members}
 use Rattle.block_table.specs.Table.{IsSmall}
 use Rattle.linked_blocks.specs.Kept.{AreChecked}
 use Rattle.linked_blocks.proofs.Lists.{zip_push, zip_length}
-use Rattle.report.specs.Places.{items_at, member_at, targets_in}
+use Rattle.report.specs.Places.{items_at, targets_in}
 use Rattle.report.specs.Unknown.{unknown_names, all_unknown, AreUnknown, blocks_of, tables_in}
 use Rattle.report.specs.UnknownStages.{IsSmallTarget, IsSmallDocument, AddsUnknown}
 

@@ -1,5 +1,5 @@
 -- What is said of a file.
-use Rattle.std.proofs.Common.{◌≡◌, ℕ, List, Option, None, Some, Err, refl, sym, subst}
+use Rattle.std.proofs.Common.{ℕ, List, Err, subst}
 use Rattle.std.specs.Prelude.{IsSome}
 use Rattle.project_json.specs.Refusal.{IsFault}
 use Rattle.project_json.specs.Text.{IsText, max_depth}

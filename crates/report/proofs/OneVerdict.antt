@@ -1,17 +1,16 @@
 -- The bytes of a file have one verdict, and so a file that was fetched one ending.
-use Rattle.std.proofs.Common.{◌≡◌, ℕ, zero, suc, ◌<◌, ◌≤◌, Bool, true, false, cond, ltb, List, [], ◌∷◌, length, Option, None, Some, Err, refl, sym, ap, ◌∙◌, subst, arith, inl, inr}
-use Rattle.std.specs.Prelude.{slice_get, IfSome, IsSome, IsSomeAnd}
+use Rattle.std.proofs.Common.{◌≡◌, ℕ, zero, suc, ◌<◌, ◌≤◌, Bool, true, false, cond, ltb, List, [], ◌∷◌, length, Option, None, Some, refl, sym, ap, ◌∙◌, subst, arith, inr}
+use Rattle.std.specs.Prelude.{slice_get, IfSome, IsSomeAnd}
 use Rattle.std.specs.List.{AllZip}
 use Rattle.std.specs.FinMap.{get}
 use Rattle.std.proofs.lemmas.Bool.Decides.{nat_tests}
 use Rattle.sv_channels.specs.Files.{Files}
 use Rattle.project_json.specs.Tree.{Tree}
 use Rattle.project_json.proofs.Results.{json_one_tree, text_no_fault, same_fault}
-use Rattle.project_json.specs.Text.{IsText, max_depth}
+use Rattle.project_json.specs.Text.{max_depth}
 use Rattle.project_file.specs.declared.blocks.Block.{Block}
 use Rattle.project_file.specs.declared.refusals.Refusal.{Refusal}
 use Rattle.project_file.specs.Reading.{blocks_in}
-use Rattle.project_file.specs.Linked.{IsChecked}
 use Rattle.project_file.proofs.OneRefusal.{JsonLaws, one_refusal, accepted_is_not_refused, one_file}
 use Rattle.linked_blocks.specs.Kept.{AreChecked}
 use Rattle.report.specs.Counts.{AreCounts, counts_of}

@@ -1,5 +1,5 @@
 -- THE TEXT of a report, line by line. Names, ids and paths are quoted as texts are in the text of a frame.
-use Rattle.std.specs.Prelude.{ℕ, List, [], ◌∷◌, ◌++◌, codes, flat_map, unwrap_or, Option}
+use Rattle.std.specs.Prelude.{ℕ, List, [], ◌∷◌, ◌++◌, codes, unwrap_or, Option}
 use Rattle.std.specs.Fmt.{decimal}
 use Rattle.project_json.specs.Tree.{Tree}
 use Rattle.project_json.specs.declared.refusal.JsonRefusal.TheVariants as json_refusal

@@ -1,5 +1,5 @@
 -- What the command tells of a status on the standard error, and its exit number: those of the player's statuses.
-use Rattle.std.specs.Prelude.{ℕ, List, [], ◌++◌, codes, Option, None, Some}
+use Rattle.std.specs.Prelude.{ℕ, List, ◌++◌, codes, Option, None, Some}
 use Rattle.report.specs.declared.status.Status.{Status}
 use Rattle.report.specs.declared.status.Status.TheVariants.{Done, Usage, ReadFault, WriteFault, BadProject, TooLarge, NoMemory}
 use Rattle.report.specs.Advice.{rule_of}

@@ -51,21 +51,28 @@ pub(crate) fn why(refusal: &Refusal) -> &'static str
     match refusal {
         Refusal::Json(JsonRefusal::NotUtf8 { .. }) => "From that byte on the file is no UTF-8.",
         Refusal::Json(JsonRefusal::Syntax { .. }) => "From that byte on the file is no JSON text.",
-        Refusal::Json(JsonRefusal::TooDeep { .. }) => "The bracket at that byte opens a nesting of more than 256.",
+        Refusal::Json(JsonRefusal::TooDeep { .. }) =>
+            "The bracket at that byte opens a nesting of more than 256.",
         Refusal::Json(JsonRefusal::NoMemory) => "",
-        Refusal::Shape { .. } => "The value at that path has not the shape that a project file has there.",
+        Refusal::Shape { .. } =>
+            "The value at that path has not the shape that a project file has there.",
         Refusal::StageCount { .. } => "A project has exactly one stage.",
         Refusal::TooMany { .. } => "A number or a length at that path is above its limit.",
-        Refusal::Mutation(_, MutationRefusal::Missing) => "The own block lacks its mutation or a text in it.",
-        Refusal::Mutation(_, MutationRefusal::BadText) => "A text in the mutation of the own block is not of its kind.",
-        Refusal::Mutation(_, MutationRefusal::LengthsDiffer) => "The mutation of the own block has not as many names and defaults as inputs.",
+        Refusal::Mutation(_, MutationRefusal::Missing) =>
+            "The own block lacks its mutation or a text in it.",
+        Refusal::Mutation(_, MutationRefusal::BadText) =>
+            "A text in the mutation of the own block is not of its kind.",
+        Refusal::Mutation(_, MutationRefusal::LengthsDiffer) =>
+            "The mutation of the own block has not as many names and defaults as inputs.",
         Refusal::Mutation(_, MutationRefusal::NoMemory) => "",
         Refusal::Dangling { .. } => "The block leads to an id that no block there has.",
         Refusal::Cyclic { .. } => "The links from the block lead back to it.",
         Refusal::Opcode { name, .. } => why_misfit(name.as_str()),
         Refusal::MissingInput { .. } => "The block needs that input, and it is empty.",
-        Refusal::Field { .. } => "The block lacks that field, or has an entry in it that the player does not know.",
-        Refusal::TooDeep { .. } => "More than 256 blocks that give values nest in each other from there.",
+        Refusal::Field { .. } =>
+            "The block lacks that field, or has an entry in it that the player does not know.",
+        Refusal::TooDeep { .. } =>
+            "More than 256 blocks that give values nest in each other from there.",
         Refusal::NoMemory => "",
     }
 }
@@ -85,18 +92,26 @@ pub(crate) fn change(refusal: &Refusal) -> &'static str
     ensures { result.now ≡ change refusal.now }
 {
     match refusal {
-        Refusal::Json(JsonRefusal::NotUtf8 { .. }) => "Take project.json out of the archive, or save the file as UTF-8.",
-        Refusal::Json(JsonRefusal::Syntax { .. }) => "Take project.json out of the archive again, or mend the text at that byte.",
+        Refusal::Json(JsonRefusal::NotUtf8 { .. }) =>
+            "Take project.json out of the archive, or save the file as UTF-8.",
+        Refusal::Json(JsonRefusal::Syntax { .. }) =>
+            "Take project.json out of the archive again, or mend the text at that byte.",
         Refusal::Json(JsonRefusal::TooDeep { .. }) => "Remove what nests so deep.",
         Refusal::Json(JsonRefusal::NoMemory) => "",
-        Refusal::Shape { .. } => "Save the project anew in the editor, or write that value as the editor writes it.",
-        Refusal::StageCount { .. } => "Let exactly one target have isStage true, as a rule the first.",
+        Refusal::Shape { .. } =>
+            "Save the project anew in the editor, or write that value as the editor writes it.",
+        Refusal::StageCount { .. } =>
+            "Let exactly one target have isStage true, as a rule the first.",
         Refusal::TooMany { .. } => "Make what stands at that path shorter.",
-        Refusal::Mutation(_, MutationRefusal::Missing) => "Make the own block and its calls anew in the editor.",
-        Refusal::Mutation(_, MutationRefusal::BadText) => "Make the own block and its calls anew in the editor.",
-        Refusal::Mutation(_, MutationRefusal::LengthsDiffer) => "Make the own block and its calls anew in the editor.",
+        Refusal::Mutation(_, MutationRefusal::Missing) =>
+            "Make the own block and its calls anew in the editor.",
+        Refusal::Mutation(_, MutationRefusal::BadText) =>
+            "Make the own block and its calls anew in the editor.",
+        Refusal::Mutation(_, MutationRefusal::LengthsDiffer) =>
+            "Make the own block and its calls anew in the editor.",
         Refusal::Mutation(_, MutationRefusal::NoMemory) => "",
-        Refusal::Dangling { .. } => "Take away what stands below the block and in it, and put it there again.",
+        Refusal::Dangling { .. } =>
+            "Take away what stands below the block and in it, and put it there again.",
         Refusal::Cyclic { .. } => "Cut the link, and build the loop by a forever or a repeat.",
         Refusal::Opcode { name, .. } => change_misfit(name.as_str()),
         Refusal::MissingInput { .. } => "Write a value into that input.",

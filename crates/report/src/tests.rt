@@ -24,7 +24,9 @@ const AFTER_BLOCKS: &str =
 
 // The base file with these blocks of the stage, and these of a sprite whose name is such a text.
 fn project(alloc: Global, stage: &str, name: &str, blocks: &str) -> Result<String, AllocError> {
-    format!(in alloc; "{BEFORE_STAGE}{stage}{BEFORE_NAME}{name}{BEFORE_BLOCKS}{blocks}{AFTER_BLOCKS}")
+    format!(in alloc;
+        "{BEFORE_STAGE}{stage}{BEFORE_NAME}{name}{BEFORE_BLOCKS}{blocks}{AFTER_BLOCKS}"
+    )
 }
 
 // A shelf with a project `p`, where these calls fail.
@@ -83,8 +85,16 @@ const SCRIPT: &str =
 fn projects_that_load(rt: HostRuntime) -> Result<(), Fail> {
     let rows = [
         ("{}", "{}", "0\nBlocks: 0\nLoose blocks, in no script: 0\n"),
-        ("{}", SCRIPT, "1\nBlocks: 3\nLoose blocks, in no script: 1\n"),
-        (SCRIPT, SCRIPT, "2\nBlocks: 6\nLoose blocks, in no script: 2\n"),
+        (
+            "{}",
+            SCRIPT,
+            "1\nBlocks: 3\nLoose blocks, in no script: 1\n",
+        ),
+        (
+            SCRIPT,
+            SCRIPT,
+            "2\nBlocks: 6\nLoose blocks, in no script: 2\n",
+        ),
     ];
     for (stage, blocks, end) in rows {
         let file = project(rt.alloc(), stage, "\"Cat\"", blocks)?;
@@ -183,11 +193,25 @@ fn blocks_that_are_refused(rt: HostRuntime) -> Result<(), Fail> {
         let file = project(alloc, "{}", "\"Cat\"", blocks)?;
         let place = format!(in alloc; "sprite \"Cat\", {block}")?;
         let text = refused(alloc, rule, place.as_str(), why, change)?;
-        says(&rt, alloc, file.as_bytes(), status.as_str(), 4, text.as_str())?;
+        says(
+            &rt,
+            alloc,
+            file.as_bytes(),
+            status.as_str(),
+            4,
+            text.as_str(),
+        )?;
         let file = project(alloc, blocks, "\"Cat\"", "{}")?;
         let place = format!(in alloc; "stage \"Stage\", {block}")?;
         let text = refused(alloc, rule, place.as_str(), why, change)?;
-        says(&rt, alloc, file.as_bytes(), status.as_str(), 4, text.as_str())?;
+        says(
+            &rt,
+            alloc,
+            file.as_bytes(),
+            status.as_str(),
+            4,
+            text.as_str(),
+        )?;
     }
     Ok(())
 }
@@ -236,7 +260,14 @@ fn files_that_are_refused(rt: HostRuntime) -> Result<(), Fail> {
     for (bytes, rule, place, why, change) in &BYTES {
         let status = format!(in alloc; "BadProject {rule}")?;
         let text = refused(alloc, rule, place, why, change)?;
-        says(&rt, alloc, bytes.as_bytes(), status.as_str(), 4, text.as_str())?;
+        says(
+            &rt,
+            alloc,
+            bytes.as_bytes(),
+            status.as_str(),
+            4,
+            text.as_str(),
+        )?;
     }
     Ok(())
 }
@@ -282,7 +313,14 @@ fn blocks_that_are_not_known(rt: HostRuntime) -> Result<(), Fail> {
         "The player does not know the block.",
         "Take the block out of the script; where it lies loose it does no harm.\nNot known, in scripts: \"pen_penDown\" 2\nNot known, in scripts: \"pen_clear\" 1\nNot known, in scripts: \"sensing_touchingobject\" 1",
     )?;
-    says(&rt, alloc, file.as_bytes(), "BadProject P5", 4, text.as_str())?;
+    says(
+        &rt,
+        alloc,
+        file.as_bytes(),
+        "BadProject P5",
+        4,
+        text.as_str(),
+    )?;
     Ok(())
 }
 
@@ -302,7 +340,14 @@ fn names_are_quoted(rt: HostRuntime) -> Result<(), Fail> {
         "The links from the block lead back to it.",
         "Cut the link, and build the loop by a forever or a repeat.",
     )?;
-    says(&rt, alloc, file.as_bytes(), "BadProject P7", 4, text.as_str())?;
+    says(
+        &rt,
+        alloc,
+        file.as_bytes(),
+        "BadProject P7",
+        4,
+        text.as_str(),
+    )?;
     Ok(())
 }
 

@@ -11,8 +11,8 @@ ghost use Rattle.report.specs.Text.{accepted_text, block_place, opcode_place, pl
 
 use crate::advice::{change, rule_of, why};
 use crate::counts::Counts;
-use crate::places::{block_at, id_of, kind_of, name_of, opcode_of, target_at};
 use crate::pieces::{push_natural, push_quoted, push_text};
+use crate::places::{block_at, id_of, kind_of, name_of, opcode_of, target_at};
 use project_file::{At, Refusal};
 use project_json::{Json, JsonRefusal};
 use std::alloc::{AllocError, Global};
@@ -68,7 +68,10 @@ fn push_opcode(out: &mut Vec<u8>, document: Option<&Json>, at: At) -> Result<(),
 {
     push_block(out, document, at)?;
     push_text(out, ", opcode ")?;
-    push_quoted(out, opcode_of(block_at(target_at(document, at.target), at.block)))
+    push_quoted(
+        out,
+        opcode_of(block_at(target_at(document, at.target), at.block)),
+    )
 }
 
 // Appends a word and what it tells in quotes.
@@ -165,7 +168,11 @@ fn rule_name(refusal: &Refusal) -> &'static str
 fn push_rule(out: &mut Vec<u8>, refusal: &Refusal) -> Result<(), AllocError>
     ensures { OnOk result (out.new.items ≡ out.old.items ++ rule_line refusal.now) }
 {
-    push_line(out, "The project does not load, by rule ", rule_name(refusal))
+    push_line(
+        out,
+        "The project does not load, by rule ",
+        rule_name(refusal),
+    )
 }
 
 // Appends the line that tells where a project is refused.

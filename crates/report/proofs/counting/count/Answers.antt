@@ -1,8 +1,7 @@
-use Rattle.std.proofs.Common.{subst, sym, ap, ◌∙◌, arith, not, map, Vec, Bool, refl, ◌<◌, List}
+use Rattle.std.proofs.Common.{ap, arith, not, map, Vec, Bool, List}
 use Rattle.std.specs.List.{count_by, sum_by}
 use Rattle.std.specs.declared.alloc.Global.{Global}
 use Rattle.project_check.specs.Loaded.{tables_of}
-use Rattle.report.specs.Counts.{loose_count}
 use Rattle.report.proofs.Counted.{few_loose, loose_in}
 use Rattle.report.proofs.counting.count.Goals as goal
 

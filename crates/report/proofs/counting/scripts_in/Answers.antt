@@ -1,4 +1,4 @@
-use Rattle.std.proofs.Common.{arith, ◌<◌, length, ap, sym, ◌∙◌}
+use Rattle.std.proofs.Common.{arith, ◌<◌, length, ap, ◌∙◌}
 use Rattle.std.specs.List.{count_by}
 use Rattle.project_file.specs.Linked.{is_head}
 use Rattle.project_check.specs.Loaded.{tables_of}

@@ -1,4 +1,4 @@
-use Rattle.std.proofs.Common.{refl, subst, ◌++◌, ap, ◌∙◌}
+use Rattle.std.proofs.Common.{refl, ◌++◌, ap, ◌∙◌}
 use Rattle.std.specs.Option.{option_map}
 use Rattle.project_json.specs.View.{tree}
 use Rattle.report.specs.Unknown.{unknown_text}

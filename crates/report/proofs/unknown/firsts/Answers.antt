@@ -1,8 +1,8 @@
-use Rattle.std.proofs.Common.{◌≡◌, ◌<◌, ◌+◌, length, drop, [], refl, sym, subst, ap, ◌++◌, arith, bytes_eq}
+use Rattle.std.proofs.Common.{◌≡◌, ◌+◌, length, drop, refl, subst, ap, ◌++◌, arith, bytes_eq}
 use Rattle.std.specs.List.{list_any, filter}
 use Rattle.std.proofs.lemmas.List.{drop_all}
 use Rattle.target_records.proofs.Sizes.{drop_turn}
-use Rattle.report.specs.Unknown.{firsts, most_told}
+use Rattle.report.specs.Unknown.{firsts}
 use Rattle.report.proofs.Firsts.{is_new, none_seen, one_more, few_more, as_many_as_told, all_seen}
 use Rattle.report.proofs.unknown.firsts.Goals as goal
 

@@ -1,4 +1,4 @@
-use Rattle.std.proofs.Common.{◌≡◌, ◌++◌, ◌≤◌, ℕ, List, drop, length, filter}
+use Rattle.std.proofs.Common.{◌≡◌, ◌++◌, ◌≤◌, drop, length, filter}
 use Rattle.report.specs.Unknown.{firsts, most_told}
 use Rattle.report.proofs.Firsts.{is_new}
 use Rattle.report.proofs.unknown.firsts.Given as goal

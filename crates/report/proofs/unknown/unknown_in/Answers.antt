@@ -1,4 +1,4 @@
-use Rattle.std.proofs.Common.{arith, subst, sym, map, []}
+use Rattle.std.proofs.Common.{arith, subst, sym, []}
 use Rattle.std.specs.Option.{option_map}
 use Rattle.project_json.specs.View.{tree}
 use Rattle.report.specs.Unknown.{AreUnknown}
