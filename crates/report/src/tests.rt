@@ -216,7 +216,7 @@ fn blocks_that_are_refused(rt: HostRuntime) -> Result<(), Fail> {
     Ok(())
 }
 
-static BYTES: [(&str, &str, &str, &str, &str); 5] = [
+static BYTES: [(&str, &str, &str, &str, &str); 4] = [
     (
         "",
         "P1",
@@ -235,13 +235,6 @@ static BYTES: [(&str, &str, &str, &str, &str); 5] = [
         "{}",
         "P2",
         "path \"targets\"",
-        "The value at that path has not the shape that a project file has there.",
-        "Save the project anew in the editor, or write that value as the editor writes it.",
-    ),
-    (
-        "[]",
-        "P2",
-        "path \"\"",
         "The value at that path has not the shape that a project file has there.",
         "Save the project anew in the editor, or write that value as the editor writes it.",
     ),
