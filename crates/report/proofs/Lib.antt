@@ -1,0 +1,5 @@
+pub mod Counted
+pub mod Judgements
+pub mod OneVerdict
+pub mod Firsts
+pub mod Gathered

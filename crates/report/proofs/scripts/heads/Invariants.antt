@@ -1,0 +1,5 @@
+use Rattle.linked_blocks.specs.Rows.{AreHeads}
+use Rattle.report.proofs.scripts.heads.Given as goal
+
+abbrev pub invariant-loop-block : goal.invariant-loop-block
+invariant-loop-block l = AreHeads l.blocks l.heads.items l.block

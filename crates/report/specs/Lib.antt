@@ -1,0 +1,12 @@
+pub mod Naming
+pub mod Counts
+pub mod Places
+pub mod Advice
+pub mod Lines
+pub mod Text
+pub mod Unknown
+pub mod UnknownStages
+pub mod Verdict
+pub mod Promise
+pub mod Stages
+pub mod Told
