@@ -1,5 +1,6 @@
 """Blocks with all that a row of the table asks for: fields, inputs, reporters that are nested, and menus."""
 from . import values
+from .project import Named
 from .table import BY_NAME, of_role
 
 TRUTHS = ["operator_gt", "operator_lt", "operator_equals", "operator_and", "operator_or", "operator_not", "operator_contains",
@@ -67,12 +68,19 @@ class Blocks:
         if name == "PROPERTY":
             return dice.pick(values.PROPERTIES + [each.name for target in self.project.targets for each in target.variables])
         if name == "KEY_OPTION":
-            return dice.pick(values.KEYS + ["any"] * 3)
+            return self.key()
         if name == "BACKDROP":
             return dice.pick(self.project.stage.costumes)
         if name == "VALUE":
             return self.argument_name(place, opcode)
         return values.text(dice)
+
+    def key(self):
+        """The key of a hat, or any key."""
+        if self.dice.chance(20):
+            return "any"
+        self.project.keys.append(self.dice.pick(values.KEYS))
+        return self.project.keys[-1]
 
     def argument_name(self, place, opcode):
         """The name of an argument of the own block around, or of none."""
@@ -147,6 +155,8 @@ class Blocks:
             number = 13 if dice.chance(15) else 12
             field = self.name_field(place, "VARIABLE" if number == 12 else "LIST")
             return [number, field[0], field[1] if len(field) > 1 and field[1] else "unknown"]
+        if place.target.finished_values and dice.chance(3):
+            return dice.pick(place.target.finished_values)
         names = TRUTHS if kind == "truth" and dice.chance(95) else [row.name for row in of_role("Reporter")]
         return self.block(place, BY_NAME[dice.pick(names)])
 
@@ -170,14 +180,13 @@ class Blocks:
         return self.add(place, menu, {}, {field: [self.menu_text(menu), None]}, shadow=True)
 
     def message(self, place):
-        """A message of a higher rank than the script's own, so that messages seldom go round without end."""
+        """A message, mostly of a higher rank than the script's own, so that messages seldom go round without end."""
         messages = self.project.messages
-        above = messages[place.rank + 1:]
-        if not above or self.dice.chance(4):
-            return [1, [11, self.dice.pick(["nobody hears", "GO"]) if place.rank < 0 else "nobody hears", "x"]]
-        message = self.dice.pick(above)
+        above = messages if self.dice.chance(12) else messages[place.rank + 1:]
+        message = self.dice.pick(above) if above else Named("x", "nobody hears")
         name = values.other_case(message.name) if self.dice.chance(8) else message.name
-        return [1, [11, name, message.ident]]
+        shadow = [11, name, message.ident]
+        return [3, self.plug(place.deeper(), "text"), shadow] if self.dice.chance(5) else [1, shadow]
 
     def inputs(self, place, row):
         """The inputs of a row that are no branches."""

@@ -7,16 +7,17 @@ BAD_LINES = [b"jump", b"flag ", b" flag", b"frame  0 1 0", b"down left", b"down"
 
 
 def frame(dice, clock):
-    """A frame line of few passes."""
-    passes = dice.weighed([(1, 4), (2, 4), (3, 4), (5, 3), (8, 2), (30, 1)])
-    return b"frame %d %d %d" % (clock, passes, dice.pick([0, 0, 1, 3, 10, 30, 100]))
+    """A frame line, mostly of few passes and a small warp budget."""
+    passes = dice.weighed([(1, 16), (2, 16), (3, 16), (5, 12), (8, 8), (30, 4), (100, 1)])
+    warp = dice.weighed([(0, 20), (1, 10), (3, 10), (10, 10), (30, 10), (100, 10), (3000, 1)])
+    return b"frame %d %d %d" % (clock, passes, warp)
 
 
-def event(dice, targets):
-    """A line that is no frame."""
-    key = dice.pick(values.KEYS)
+def event(dice, targets, keys):
+    """A line that is no frame; most of the keys are such as the project names."""
+    key = dice.pick(keys if keys and dice.chance(75) else values.KEYS)
     return dice.weighed([
-        ("flag", 8),
+        ("flag", 4),
         ("stop", 1),
         ("down " + key, 5),
         ("up " + key, 3),
@@ -31,20 +32,20 @@ def event(dice, targets):
     ])
 
 
-def good(dice, targets):
+def good(dice, targets, keys):
     """Lines that are all good: mostly a flag, then events and some frames, whose clock never goes back."""
     lines, clock = [b"flag"] if dice.chance(90) else [], dice.pick([0, 0, 5, 1000])
-    for _ in range(dice.between(1, 7)):
-        for _ in range(dice.weighed([(0, 5), (1, 4), (2, 2), (4, 1)])):
-            lines.append(event(dice, targets).encode("utf-8", "replace"))
+    for _ in range(dice.between(2, 10)):
+        for _ in range(dice.weighed([(0, 5), (1, 5), (2, 3), (4, 1)])):
+            lines.append(event(dice, targets, keys).encode("utf-8", "replace"))
         lines.append(frame(dice, clock))
         clock += dice.pick([0, 1, 16, 33, 34, 100, 500, 1000])
     return lines
 
 
-def script(dice, targets, is_bad):
+def script(dice, targets, keys, is_bad):
     """The bytes of an input script; a bad one has one bad line at some place."""
-    lines = good(dice, targets)
+    lines = good(dice, targets, keys)
     if is_bad:
         bad = dice.pick(BAD_LINES + [b"frame 7 1 1\nframe 6 1 1"] * 3)
         lines.insert(dice.below(len(lines) + 1), bad)

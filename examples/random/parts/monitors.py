@@ -18,7 +18,8 @@ def of_names(dice, target):
     owner = None if target.is_stage else target.name
     found = [(each.ident, "data_variable", {"VARIABLE": each.name}) for each in target.variables]
     found += [(each.ident, "data_listcontents", {"LIST": each.name}) for each in target.lists]
-    return [monitor(dice, ident, opcode, params, owner) for ident, opcode, params in found if dice.chance(70)]
+    owner = "nobody" if dice.chance(2) else owner
+    return [monitor(dice, "gone" if dice.chance(2) else ident, opcode, params, owner) for ident, opcode, params in found if dice.chance(70)]
 
 
 def of_state(dice, project):

@@ -1,6 +1,7 @@
 """What a project has beside its scripts: its targets, their variables and lists, messages, own blocks and monitors."""
 from . import values
 from .json_text import Spelled
+from .table import BY_NAME
 
 SOUP = "!#%()*+,-./:;=?@[]^_`{|}~ABCDEFGHIJKLMNOPQRSTUVWXYZabcdefghijklmnopqrstuvwxyz0123456789"
 
@@ -26,13 +27,22 @@ class Target:
         self.name, self.is_stage = name, is_stage
         self.variables, self.lists, self.costumes, self.procedures = [], [], [], []
         self.blocks = {}
+        self.finished_commands, self.finished_values = [], []
+
+    def finish(self):
+        """Keeps the blocks of whole scripts apart: a further link to one of them makes no cycle."""
+        for ident, block in self.blocks.items():
+            kind = BY_NAME[block["opcode"]].role if isinstance(block, dict) and block["opcode"] in BY_NAME else None
+            known = {"Command": self.finished_commands, "Reporter": self.finished_values}.get(kind)
+            if known is not None and ident not in known:
+                known.append(ident)
 
 
 class Project:
     """All that scripts can name."""
 
     def __init__(self, dice):
-        self.dice, self.made = dice, 0
+        self.dice, self.made, self.keys = dice, 0, []
         self.stage = self.target("Stage", True)
         self.sprites = [self.target(name, False) for name in self.sprite_names()]
         self.targets = [self.stage] + self.sprites
@@ -44,7 +54,7 @@ class Project:
         return "".join(self.dice.pick(SOUP) for _ in range(self.dice.between(1, 6))) + str(self.made)
 
     def sprite_names(self):
-        names = self.dice.shuffled(["Cat", "Ball", "Zoé", "a \"b\"\\", "7", "Sprite1"])[:self.dice.weighed([(1, 4), (2, 4), (3, 2), (0, 1)])]
+        names = self.dice.shuffled(["Cat", "Ball", "Zoé", "a \"b\"\\", "7", "Sprite1"])[:self.dice.weighed([(0, 1), (1, 6), (2, 6), (3, 3)])]
         return names + names[:1] if self.dice.chance(3) else names
 
     def target(self, name, is_stage):
@@ -55,7 +65,7 @@ class Project:
         names = dice.shuffled(["list", "items", "n", "ﬁ"])
         target.lists = [Named(self.ident(), each, self.items()) for each in names[:dice.between(1 if is_stage else 0, 2)]]
         names = dice.shuffled(["one", "two", "3", "next costume", "Größe", "random backdrop", "costume1"])
-        target.costumes = names[:dice.between(1, 4)]
+        target.costumes = names[:dice.between(1, 4)] + (names[:1] if dice.chance(5) else [])
         return target
 
     def items(self):
@@ -97,7 +107,7 @@ def target_document(dice, project, target, layer):
     members["lists"] = {each.ident: [each.name, each.held] for each in target.lists}
     members["broadcasts"] = {each.ident: each.name for each in project.messages} if target.is_stage else {}
     members["blocks"] = target.blocks
-    members["comments"] = {}
+    members["comments"] = {"c": {"blockId": next(iter(target.blocks), None), "x": Spelled("1.5"), "y": 2, "width": 200, "height": 120, "minimized": False, "text": "é\n"}}
     members["costumes"] = [costume(name) for name in target.costumes]
     members["sounds"] = []
     members.update(shown(dice, target, layer))

@@ -7,9 +7,10 @@ from .project import Procedure
 from .table import BY_NAME, of_role
 
 WEIGHTS = {"control_repeat": 8, "control_if": 6, "control_if_else": 6, "control_repeat_until": 4, "control_wait": 6, "event_broadcast": 5,
-           "event_broadcastandwait": 5, "control_create_clone_of": 4, "sensing_askandwait": 4, "procedures_call": 12, "control_forever": 3,
-           "data_setvariableto": 10, "data_changevariableby": 10, "data_addtolist": 6, "control_stop": 1, "control_delete_this_clone": 1}
-RANDOM_HATS = [(row.name, {"event_whenflagclicked": 8, "event_whenbroadcastreceived": 6, "event_whenkeypressed": 4}.get(row.name, 2)) for row in of_role("Hat")]
+           "event_broadcastandwait": 5, "control_create_clone_of": 6, "sensing_askandwait": 4, "procedures_call": 12, "control_forever": 5,
+           "data_setvariableto": 10, "data_changevariableby": 10, "data_addtolist": 6, "control_stop": 2, "control_delete_this_clone": 2,
+           "looks_changeeffectby": 5, "looks_seteffectto": 5, "looks_sayforsecs": 4, "motion_glidesecstoxy": 4}
+RANDOM_HATS = [(row.name, {"event_whenflagclicked": 12, "event_whenbroadcastreceived": 7, "event_whenkeypressed": 4, "control_start_as_clone": 4}.get(row.name, 2)) for row in of_role("Hat")]
 
 
 def weight(row):
@@ -25,14 +26,14 @@ class Scripts(Blocks):
 
     def __init__(self, project):
         super().__init__(project)
-        self.left = self.dice.pick([6, 12, 20, 35, 60])
+        self.left = 0
 
     # Commands
 
     def row(self, place):
         """A command that may stand there."""
         row = self.dice.weighed(COMMANDS)
-        if row.branches and place.depth > 2 or row.name == "control_create_clone_of" and place.is_clone and self.dice.chance(80):
+        if row.branches and place.depth > 2 or row.name == "control_create_clone_of" and place.is_clone and self.dice.chance(70):
             return BY_NAME["data_changevariableby"]
         return row
 
@@ -72,7 +73,13 @@ class Scripts(Blocks):
             first, above = first or ident, ident
             if place.target.blocks[ident]["opcode"] == "control_forever" and self.dice.chance(90):
                 break
+        self.share_tail(place, above)
         return first
+
+    def share_tail(self, place, last):
+        """Now and then the last block leads on to a block of a whole script, which then stands in two scripts."""
+        if last and place.target.finished_commands and self.dice.chance(2):
+            place.target.blocks[last]["next"] = self.dice.pick(place.target.finished_commands)
 
     def put_below(self, place, above, ident):
         """Links the block behind the one above it."""
@@ -128,9 +135,10 @@ class Scripts(Blocks):
 
     def put_on_top(self, target, head, first):
         """Puts a head above the first block of its script."""
-        target.blocks[head].update({"next": first, "topLevel": True, "x": self.dice.between(-100, 500), "y": 40})
+        target.blocks[head].update({"next": first, "topLevel": self.dice.chance(98), "x": self.dice.between(-100, 500), "y": 40})
         if first:
             target.blocks[first]["parent"] = head
+        target.finish()
 
     def script(self, target):
         """A hat and what stands below it."""
@@ -161,7 +169,7 @@ class Scripts(Blocks):
             target.procedures.append(target.procedures[0])
         for procedure in target.procedures:
             self.define(target, procedure)
-        for _ in range(self.dice.weighed([(0, 1), (1, 3), (2, 4), (4, 2)])):
+        for _ in range(self.dice.weighed([(0, 1), (1, 3), (2, 4), (4, 3)])):
             self.script(target)
         for _ in range(self.dice.weighed([(0, 8), (1, 3), (2, 1)])):
             self.loose(target)
@@ -173,5 +181,5 @@ def fill(project):
     """Gives scripts to all targets of a project."""
     scripts = Scripts(project)
     for target in project.targets:
+        scripts.left = project.dice.pick([8, 20, 35, 60])
         scripts.of_target(target)
-        scripts.left += 6
