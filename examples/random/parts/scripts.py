@@ -140,14 +140,23 @@ class Scripts(Blocks):
             target.blocks[first]["parent"] = head
         target.finish()
 
-    def script(self, target):
-        """A hat and what stands below it."""
-        opcode = self.dice.weighed(RANDOM_HATS)
+    def script(self, target, number):
+        """A hat and what stands below it; the first of a target is mostly one that the green flag starts."""
+        opcode = "event_whenflagclicked" if number == 0 and self.dice.chance(75) else self.dice.weighed(RANDOM_HATS)
         head = self.block(Place(target, depth=3), BY_NAME[opcode])
         field = target.blocks[head]["fields"].get("BROADCAST_OPTION")
         rank = [each.name for each in self.project.messages].index(field[0]) if field else -1
         place = Place(target, None, rank, 0, opcode == "control_start_as_clone")
-        self.put_on_top(target, head, self.stack(place, self.dice.between(1, 7)))
+        self.put_on_top(target, head, self.body(place))
+
+    def body(self, place):
+        """What stands below a hat: commands, in some scripts within a loop without end."""
+        first = self.stack(place, self.dice.between(1, 7))
+        if not first or self.dice.chance(65):
+            return first
+        loop = self.add(place, "control_forever", {"SUBSTACK": [2, first]}, {})
+        place.target.blocks[first]["parent"] = loop
+        return loop
 
     def loose(self, target):
         """Blocks that belong to no script: some commands, a reporter, a block of an extension, a variable."""
@@ -164,13 +173,15 @@ class Scripts(Blocks):
 
     def of_target(self, target):
         """All scripts of a target."""
-        target.procedures = [self.procedure(number) for number in range(self.dice.weighed([(0, 4), (1, 3), (2, 2)]))]
+        target.procedures = [self.procedure(number) for number in range(self.dice.weighed([(0, 5), (1, 3), (2, 2)]))]
         if target.procedures and self.dice.chance(6):
             target.procedures.append(target.procedures[0])
+        for number in range(self.dice.weighed([(0, 1), (1, 4), (2, 6), (3, 4), (5, 3)])):
+            self.left = max(self.left, 4)
+            self.script(target, number)
         for procedure in target.procedures:
+            self.left = max(self.left, 3)
             self.define(target, procedure)
-        for _ in range(self.dice.weighed([(0, 1), (1, 3), (2, 4), (4, 3)])):
-            self.script(target)
         for _ in range(self.dice.weighed([(0, 8), (1, 3), (2, 1)])):
             self.loose(target)
         if self.dice.chance(15):
