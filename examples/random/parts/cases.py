@@ -12,16 +12,17 @@ class Case:
         self.dice = dice = Dice(number)
         self.number, self.project_fault, self.script_fault = number, "none", "none"
         self.seed = dice.pick([0, 1, 7, dice.below(2 ** 32), 2 ** 64 - 1])
+        self.is_heavy = dice.chance(3)
         self.document, targets, keys = self.made()
         self.project = self.written()
         if dice.chance(12):
             self.script_fault = "a bad line"
-        self.script = lines.script(dice, targets, keys, self.script_fault != "none")
+        self.script = lines.script(dice, targets, keys, self.is_heavy, self.script_fault != "none")
 
     def made(self):
         """The document without a fault, the number of its targets, and the keys that its scripts wait for."""
         made = project.Project(self.dice)
-        scripts.fill(made)
+        scripts.fill(made, self.is_heavy)
         return project.document(self.dice, made, monitors.monitors(self.dice, made)), len(made.targets), made.keys
 
     def written(self):

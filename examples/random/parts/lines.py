@@ -6,8 +6,10 @@ BAD_LINES = [b"jump", b"flag ", b" flag", b"frame  0 1 0", b"down left", b"down"
              b"click 4294967296", b"turbo", b"turbo ON", b"button", b"\xff", b"down \xff", b"# \xc3", b"answer\xff", b"flag\r", b"down ab", b"frame 1 1"]
 
 
-def frame(dice, clock):
+def frame(dice, clock, is_heavy):
     """A frame line, mostly of few passes and a small warp budget."""
+    if is_heavy:
+        return b"frame %d %d 3000" % (clock, dice.between(1, 3))
     passes = dice.weighed([(1, 16), (2, 16), (3, 16), (5, 12), (8, 8), (30, 4), (100, 1)])
     warp = dice.weighed([(0, 20), (1, 10), (3, 10), (10, 10), (30, 10), (100, 10), (3000, 1)])
     return b"frame %d %d %d" % (clock, passes, warp)
@@ -32,20 +34,20 @@ def event(dice, targets, keys):
     ])
 
 
-def good(dice, targets, keys):
+def good(dice, targets, keys, is_heavy):
     """Lines that are all good: mostly a flag, then events and some frames, whose clock never goes back."""
     lines, clock = [b"flag"] if dice.chance(90) else [], dice.pick([0, 0, 5, 1000])
     for _ in range(dice.between(2, 10)):
         for _ in range(dice.weighed([(0, 5), (1, 5), (2, 3), (4, 1)])):
             lines.append(event(dice, targets, keys).encode("utf-8", "replace"))
-        lines.append(frame(dice, clock))
+        lines.append(frame(dice, clock, is_heavy))
         clock += dice.pick([0, 1, 16, 33, 34, 100, 500, 1000])
     return lines
 
 
-def script(dice, targets, keys, is_bad):
+def script(dice, targets, keys, is_heavy, is_bad):
     """The bytes of an input script; a bad one has one bad line at some place."""
-    lines = good(dice, targets, keys)
+    lines = good(dice, targets, keys, is_heavy)
     if is_bad:
         bad = dice.pick(BAD_LINES + [b"frame 7 1 1\nframe 6 1 1"] * 3)
         lines.insert(dice.below(len(lines) + 1), bad)

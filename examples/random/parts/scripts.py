@@ -1,7 +1,7 @@
 """Scripts of a project: hats, commands one below another, own blocks and their calls, and blocks that lie loose."""
 import json
 
-from . import values
+from . import heavy, values
 from .blocks import Blocks, Place
 from .project import Procedure
 from .table import BY_NAME, of_role
@@ -188,9 +188,11 @@ class Scripts(Blocks):
             target.blocks = {ident: target.blocks[ident] for ident in self.dice.shuffled(target.blocks)}
 
 
-def fill(project):
-    """Gives scripts to all targets of a project."""
+def fill(project, is_heavy):
+    """Gives scripts to all targets of a project; in a heavy one, one of them comes near a limit."""
     scripts = Scripts(project)
+    if is_heavy:
+        heavy.add(scripts)
     for target in project.targets:
         scripts.left = project.dice.pick([8, 20, 35, 60])
         scripts.of_target(target)
