@@ -4,7 +4,8 @@ import subprocess
 
 # What the table of exit numbers in README.md has; 6 is none of them.
 STATUSES = [0, 1, 2, 3, 4, 5, 7, 8, 9]
-SECONDS = 10
+# How long a run may take, by the clock.
+SECONDS = float(os.environ.get("SECONDS", "10"))
 
 
 class Run:
@@ -24,10 +25,14 @@ def play(player, folder, seed):
     return Run(ran.returncode, ran.stdout, ran.stderr)
 
 
+def no_answer():
+    return "no answer in %g seconds" % SECONDS
+
+
 def wrong(run, case):
     """What is wrong with a run of a case, or None."""
     if run.status is None:
-        return "no answer in %d seconds" % SECONDS
+        return no_answer()
     if run.status < 0:
         return "ended by signal %d" % -run.status
     if run.status not in STATUSES:
@@ -49,6 +54,8 @@ def first_difference(one, other):
 
 def difference(one, other):
     """Where two runs differ, or None."""
+    if one.status is None:
+        return no_answer()
     if one.status != other.status:
         return "exit numbers %s and %s" % (one.status, other.status)
     if one.error != other.error:
