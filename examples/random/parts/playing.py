@@ -5,7 +5,7 @@ import subprocess
 # What the table of exit numbers in README.md has; 6 is none of them.
 STATUSES = [0, 1, 2, 3, 4, 5, 7, 8, 9]
 # How long a run may take, by the clock.
-SECONDS = float(os.environ.get("SECONDS", "10"))
+SECONDS = float(os.environ.get("RUN_SECONDS", "10"))
 
 
 class Run:
