@@ -1,6 +1,6 @@
 //! The inputs of a block of a small project: nested reporters, variables, lists, menus and random words.
 
-use crate::{View, inputs, no_inputs, only_input};
+use crate::{View, inputs};
 use devices::Devices;
 use project_check::{Project, load};
 use scratch_number::{Num, of_whole};
@@ -123,27 +123,4 @@ fn no_word_is_left(rt: HostRuntime) {
     };
     assert!(rt; told == Err(full));
     assert!(rt; drawn == (1 << 62) - 1);
-}
-
-#[test]
-fn a_block_may_have_one_input_or_none(rt: HostRuntime) {
-    let project = project(&rt, r#"[3,"product",[4,""]]"#);
-    let stores = opened(&rt, &project);
-    let view = View {
-        project: &project,
-        targets: &stores.targets,
-        variables: &stores.variables,
-        devices: &stores.devices,
-        here: InstanceId(0),
-        target: TargetId(0),
-        params: None,
-    };
-    assert!(rt; project.target_count() > 0);
-    assert!(rt; project.blocks(TargetId(0)).len() > 1);
-    assert!(rt; project.cached(TargetId(0), BlockId(0)).inputs.len() == 0);
-    assert!(rt; project.cached(TargetId(0), BlockId(1)).inputs.len() == 1);
-    assert!(rt; no_inputs(&view, BlockId(0)).value("VALUE").is_none());
-    let mut words = pcg(0, 0);
-    let first = only_input(rt.alloc(), &view, BlockId(1), &mut words).expect(&rt, "a value");
-    assert!(rt; to_number(first.value.get()) == of_whole(21));
 }
