@@ -2,7 +2,7 @@
 
 ghost use Rattle.std.specs.Prelude.{◌≡◌, ℕ, List, Option};
 ghost use Rattle.sv_channels.specs.Files.{Files};
-ghost use Rattle.sv_channels.specs.Counts.{next_count, Rose, NoneFell};
+ghost use Rattle.sv_channels.specs.Counts.{next_count, Rose, NoneFell, NoneRose};
 ghost use Rattle.sv_channels.specs.Shelf.{FetchAnswer, PutAnswer, FetchCounts, wants_after_fetch, PutCounts, wants_after_put};
 
 use crate::{FetchError, PutError};
@@ -32,7 +32,7 @@ pub trait Shelf {
             (Rose (fetch_faults self.old name.now) (fetch_faults self.new name.now)) result }
         ensures held { held self.new ≡ held self.old }
         ensures fetch_faults { NoneFell (fetch_faults self.old) (fetch_faults self.new) }
-        ensures put_faults { NoneFell (put_faults self.old) (put_faults self.new) }
+        ensures put_faults { NoneRose (put_faults self.old) (put_faults self.new) }
 
         // A fetch that does not fail leaves each count of failures as it was, and each call is counted.
         ensures steady { FetchCounts (fetch_faults self.old) (fetch_faults self.new) result }
@@ -43,7 +43,7 @@ pub trait Shelf {
     fn put(&mut self, alloc: Global, name: &str, bytes: &[u8]) -> Result<(), PutError>
         ensures answer { PutAnswer (held self.old) (held self.new) name.now bytes.now
             (Rose (put_faults self.old name.now) (put_faults self.new name.now)) result }
-        ensures fetch_faults { NoneFell (fetch_faults self.old) (fetch_faults self.new) }
+        ensures fetch_faults { NoneRose (fetch_faults self.old) (fetch_faults self.new) }
         ensures put_faults { NoneFell (put_faults self.old) (put_faults self.new) }
 
         ensures steady { PutCounts (put_faults self.old) (put_faults self.new) result }
