@@ -38,6 +38,13 @@ impl<R: Rng + Drop> Run<R> {
         Ok(Run { alloc, state })
     }
 
+    /// The run that is in just this state, as a saved run that is read again.
+    pub fn rebuild(alloc: Global, state: State<R>) -> Run<R>
+        ensures { result.state ≡ state }
+    {
+        Run { alloc, state }
+    }
+
     /// Applies a line of an input script that is no frame. `Stop` is the first limit that is met, and `NoMemory` only for
     /// want of memory. After a stop the run is only dropped.
     pub fn apply_line(&mut self, project: &Project, line: Line) -> Result<(), Stop>
