@@ -4,3 +4,6 @@
 mod run;
 
 pub use run::Run;
+
+#[cfg(test)]
+mod tests;

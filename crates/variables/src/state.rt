@@ -20,7 +20,7 @@ use crate::{first, monitors, store};
 use lists::ListOf;
 use scratch_number::{Num, of_whole};
 use scratch_values::{Value, Values};
-use script_machine::{InstanceId, Made, MadeList, Shown, Store, Stores};
+use script_machine::{InstanceId, MadeList, Shown, Store, Stores};
 use std::alloc::{AllocError, Global};
 use std::marker::Model;
 use target_records::Records;
@@ -92,20 +92,6 @@ impl Variables {
         ensures kept { AreStores result.now }
     {
         self.stores.as_slice()
-    }
-
-    /// Whether each monitor of the file is visible, in the order of the file.
-    pub fn file_monitors(&self) -> &[bool]
-        ensures { result.now ≡ self.now.file_monitors }
-    {
-        self.file_monitors.as_slice()
-    }
-
-    /// The monitors that blocks added, in the order of adding.
-    pub fn made(&self) -> &[Made]
-        ensures { result.now ≡ self.now.made }
-    {
-        self.made.as_slice()
     }
 
     // The place of the store of an instance: first that of its number is tried.
