@@ -17,4 +17,4 @@ mod waits;
 
 pub use laws::a_saved_run_is_its_world;
 pub use run::SavedRun;
-pub use saving::{LONGEST, SaveStop, save};
+pub use saving::{LONGEST, SaveStop, save, text_of};

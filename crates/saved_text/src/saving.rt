@@ -1,14 +1,13 @@
 //! Saving a run.
 
-ghost use Rattle.std.specs.Prelude.{◌≡◌, IfOk, IfErr};
-ghost use Rattle.saved_text.specs.declared.saving.SaveStop.TheVariants.{NoMemory};
+ghost use Rattle.std.specs.Prelude.{◌≡◌, IfOk};
 ghost use Rattle.saved_text.specs.Saved.{saved_text};
 ghost use Rattle.saved_text.specs.Saving.{IsSaved, longest};
 ghost use Rattle.saved_text.specs.Seen.{seen};
 ghost use Rattle.saved_text.specs.Threads.{thread};
 
 use crate::run::{SavedRun, Written};
-use std::alloc::Global;
+use std::alloc::{AllocError, Global};
 use thiserror::Error;
 
 /// The most bytes of a saved run: 128 MiB.
@@ -25,22 +24,19 @@ pub enum SaveStop {
     NoMemory,
 }
 
-// The text of a run, of any length.
-fn text_of(alloc: Global, run: &SavedRun<'_>) -> Result<Vec<u8>, SaveStop>
-    ensures text { IfOk result (λ text. text.items ≡ saved_text thread (seen run.now)) }
-    ensures err { IfErr result (λ stop. stop ≡ NoMemory) }
+/// The text of a run, of any length (docs/formats.md, section 5). The only error is want of memory.
+pub fn text_of(alloc: Global, run: &SavedRun<'_>) -> Result<Vec<u8>, AllocError>
+    ensures { IfOk result (λ text. text.items ≡ saved_text thread (seen run.now)) }
 {
-    let Ok(digits) = hex::encode(alloc, &run.digest) else {
-        return Err(SaveStop::NoMemory);
-    };
+    let digits = hex::encode(alloc, &run.digest)?;
     let written = Written {
         run,
         digits: digits.as_str(),
     };
-    let Ok(text) = serde_json::to_vec(alloc, &written) else {
-        return Err(SaveStop::NoMemory);
-    };
-    Ok(text)
+    match serde_json::to_vec(alloc, &written) {
+        Ok(text) => Ok(text),
+        Err(_error) => Err(AllocError),
+    }
 }
 
 // A text, where it is no longer than the limit.
@@ -59,6 +55,8 @@ pub(crate) fn within(limit: u64, text: Vec<u8>) -> Result<Vec<u8>, SaveStop>
 pub fn save(alloc: Global, run: &SavedRun<'_>) -> Result<Vec<u8>, SaveStop>
     ensures { IsSaved longest (saved_text thread (seen run.now)) result }
 {
-    let text = text_of(alloc, run)?;
+    let Ok(text) = text_of(alloc, run) else {
+        return Err(SaveStop::NoMemory);
+    };
     within(LONGEST, text)
 }
