@@ -1,8 +1,9 @@
 -- A call's stages against its outcome.
-use Rattle.std.proofs.Common.{◌≡◌, ℕ, ◌<◌, ◌≤◌, Bool, true, false, cond, ltb, List, length, Option, None, Some, Err, refl, sym, ap, ◌∙◌, subst, inr, arith}
+use Rattle.std.proofs.Common.{◌≡◌, ℕ, ◌+◌, ◌<◌, ◌≤◌, Bool, true, false, cond, ltb, List, length, Option, None, Some, Err, refl, sym, ap, ◌∙◌, subst, inr, arith}
 use Rattle.std.specs.Prelude.{IfSome, IsSomeAnd, IsSome}
 use Rattle.std.specs.FinMap.{get}
 use Rattle.std.proofs.lemmas.Bool.Decides.{nat_tests}
+use Rattle.sha2.specs.Sha256.{sha256}
 use Rattle.sv_channels.specs.Files.{Files}
 use Rattle.sv_channels.specs.Shelf.{IsHeld}
 use Rattle.sv_channels.proofs.Gains.{Gained-nil}
@@ -10,17 +11,21 @@ use Rattle.project_json.proofs.Results.{json_one_tree, text_no_fault, same_fault
 use Rattle.project_file.specs.declared.refusals.Refusal.{Refusal}
 use Rattle.project_file.specs.declared.refusals.Refusal.TheVariants as refusal
 use Rattle.project_file.proofs.OneRefusal.{JsonLaws, one_refusal, accepted_is_not_refused, one_file}
-use Rattle.project_file.specs.Refusals.{IsProject}
 use Rattle.project_check.specs.Loaded.{Loads as LoadsProject}
 use Rattle.script_machine.specs.Program.{Program}
 use Rattle.rand_core.specs.Stream.{Stream}
 use Rattle.script_words.specs.Words.{without, answers, seeded}
-use Rattle.script_machine.specs.Words.{Words}
+use Rattle.script_machine.specs.Output.{Output, Ending as RunEnding, Whole, BadLine, Limited}
+use Rattle.script_machine.specs.Tasks.{Task}
+use Rattle.script_machine.specs.World.{World}
+use Rattle.saved_text.specs.Saving.{longest}
 use Rattle.player.specs.Limits.{project_limit, script_limit}
 use Rattle.player.specs.Command.{Form}
 use Rattle.player.proofs.Programs.{one_program}
-use Rattle.player.specs.Promise.{Loading, refused, accepted, Loads, Checks, counts_of, OfFile, missing, too_large, not_accepted, unloaded, told, ran, is_whole, words_of, output_of, Ending, Outcome, ends, all_of, fetched, loaded, IsFetched, IsLoaded, AnswerCause, Wrote, FetchesOf}
+use Rattle.player.specs.Promise.{Loading, refused, accepted, Loads, Checks, counts_of, OfFile, missing, too_large, not_accepted, unloaded, told, ran, unsaved, words_of, output_of, text_from, text_of_run, Ending, Outcome, ends, at_ending, all_of, counted, Calls, fetched, loaded, IsFetched, IsLoaded, AnswerCause, Wrote, CallsOf}
+use Rattle.player.specs.Saving.{PutsCalled}
 use Rattle.player.specs.Stages.{Fetched, Loaded, RefusedAs, PlayedTo}
+use Rattle.player.proofs.Outputs.{counted_more}
 use Rattle.player.specs.Told.{text_of_refusal}
 use Rattle.player.specs.declared.counts.Counts.{Counts}
 use Rattle.player.specs.declared.status.Which.{Which}
@@ -84,44 +89,46 @@ accepted_ok : {A : Type 0} (reads : Loading A → Type 0) → IsReading reads �
 accepted_ok reads is a (refused r) next p q = absurd (is.apart a r p q)
 accepted_ok reads is a (accepted b) next p q = ap next (is.same a b p q)
 
-abbrev pub after_load : Form → Files → Program → Outcome
-after_load form files p = fetched which.Script script_limit (get files form.script) (λ script. all_of (output_of p (words_of form.seed) script))
+abbrev pub after_load : Form → Files → (project : List ℕ) → Program → Outcome
+after_load form files project p = fetched which.Script script_limit (get files form.script) (λ script. all_of form.save (text_of_run project form.seed) (output_of p (words_of form.seed) script))
 
 -- Where a project file was fetched
 
-abbrev pub AfterFetch : {A : Type 0} → (List ℕ → Loading A → Type 0) → (Files → A → Outcome) → (Outcome → Type 0) → Option Files → List ℕ → Type 0
+abbrev pub AfterFetch : {A : Type 0} → (List ℕ → Loading A → Type 0) → (Files → List ℕ → A → Outcome) → (Outcome → Type 0) → Option Files → List ℕ → Type 0
 AfterFetch {A} reads next P held name =
-    IfSome held (λ files. (loading : Loading A) → OfFile reads (get files name) loading → P (fetched which.Project project_limit (get files name) (λ bytes. loaded loading (next files))))
+    IfSome held (λ files. (loading : Loading A) → OfFile reads (get files name) loading → P (fetched which.Project project_limit (get files name) (λ bytes. loaded loading (next files bytes))))
 
 -- of every outcome
-pub always : {A : Type 0} (reads : List ℕ → Loading A → Type 0) (next : Files → A → Outcome) (P : Outcome → Type 0) (held : Option Files) (name : List ℕ) → ((o : Outcome) → P o) → AfterFetch reads next P held name
+pub always : {A : Type 0} (reads : List ℕ → Loading A → Type 0) (next : Files → List ℕ → A → Outcome) (P : Outcome → Type 0) (held : Option Files) (name : List ℕ) → ((o : Outcome) → P o) → AfterFetch reads next P held name
 always reads next P None name k = tt
-always reads next P (Some files) name k = λ loading l. k (fetched which.Project project_limit (get files name) (λ bytes. loaded loading (next files)))
+always reads next P (Some files) name k = λ loading l. k (fetched which.Project project_limit (get files name) (λ bytes. loaded loading (next files bytes)))
 
 read_bytes : {A : Type 0} (reads : List ℕ → Loading A → Type 0) (o : Option (List ℕ)) (bytes : List ℕ) (loading : Loading A) → o ≡ Some bytes → OfFile reads o loading → reads bytes loading
 read_bytes reads o bytes loading e l = subst (λ x. OfFile reads x loading) e l
 
-pub at_load : {A : Type 0} (reads : List ℕ → Loading A → Type 0) (next : Files → A → Outcome) (P : Outcome → Type 0) (held : Option Files) (name bytes : List ℕ)
-    → IsFetchedFile held name project_limit bytes → ((files : Files) (loading : Loading A) → reads bytes loading → P (loaded loading (next files))) → AfterFetch reads next P held name
+pub at_load : {A : Type 0} (reads : List ℕ → Loading A → Type 0) (next : Files → List ℕ → A → Outcome) (P : Outcome → Type 0) (held : Option Files) (name bytes : List ℕ)
+    → IsFetchedFile held name project_limit bytes → ((files : Files) (loading : Loading A) → reads bytes loading → P (loaded loading (next files bytes))) → AfterFetch reads next P held name
 at_load reads next P None name bytes h k = tt
 at_load reads next P (Some files) name bytes h k = λ loading l.
-    subst P (sym (fetched_ok which.Project project_limit (get files name) bytes (λ b. loaded loading (next files)) h.is h.small))
+    subst P (sym (fetched_ok which.Project project_limit (get files name) bytes (λ b. loaded loading (next files b)) h.is h.small))
     (k files loading (read_bytes reads (get files name) bytes loading h.is l))
 
-pub at_accepted : {A : Type 0} (reads : List ℕ → Loading A → Type 0) (next : Files → A → Outcome) (P : Outcome → Type 0) (held : Option Files) (name bytes : List ℕ) (a : A)
-    → IsReading (reads bytes) → IsFetchedFile held name project_limit bytes → reads bytes (accepted a) → IfSome held (λ files. P (next files a)) → AfterFetch reads next P held name
+pub at_accepted : {A : Type 0} (reads : List ℕ → Loading A → Type 0) (next : Files → List ℕ → A → Outcome) (P : Outcome → Type 0) (held : Option Files) (name bytes : List ℕ) (a : A)
+    → IsReading (reads bytes) → IsFetchedFile held name project_limit bytes → reads bytes (accepted a) → IfSome held (λ files. P (next files bytes a)) → AfterFetch reads next P held name
 at_accepted reads next P None name bytes a is h p k = tt
 at_accepted reads next P (Some files) name bytes a is h p k = λ loading l.
     subst P
-    (sym (fetched_ok which.Project project_limit (get files name) bytes (λ b. loaded loading (next files)) h.is h.small
-    ∙ accepted_ok (reads bytes) is a loading (next files) p (read_bytes reads (get files name) bytes loading h.is l)))
+    (sym (fetched_ok which.Project project_limit (get files name) bytes (λ b. loaded loading (next files b)) h.is h.small
+    ∙ accepted_ok (reads bytes) is a loading (next files bytes) p (read_bytes reads (get files name) bytes loading h.is l)))
     k
 
-pub at_end : (P : Outcome → Type 0) (held : Option Files) (form : Form) (script : List ℕ) (p : Program) → IsFetchedFile held form.script script_limit script
-    → P (all_of (output_of p (words_of form.seed) script)) → IfSome held (λ files. P (after_load form files p))
-at_end P None form script p h q = tt
-at_end P (Some files) form script p h q =
-    subst P (sym (fetched_ok which.Script script_limit (get files form.script) script (λ s. all_of (output_of p (words_of form.seed) s)) h.is h.small)) q
+pub at_end : (P : Outcome → Type 0) (held : Option Files) (form : Form) (project script digest : List ℕ) (p : Program) → digest ≡ sha256 project → IsFetchedFile held form.script script_limit script
+    → P (all_of form.save (text_from digest form.seed) (output_of p (words_of form.seed) script)) → IfSome held (λ files. P (after_load form files project p))
+at_end P None form project script digest p e h q = tt
+at_end P (Some files) form project script digest p e h q =
+    subst P
+    (sym (fetched_ok which.Script script_limit (get files form.script) script (λ s. all_of form.save (text_of_run project form.seed) (output_of p (words_of form.seed) s)) h.is h.small))
+    (subst (λ d. P (all_of form.save (text_from d form.seed) (output_of p (words_of form.seed) script))) e q)
 
 pub everywhere : {P : Type 0} (held : Option Files) → P → IfSome held (λ files. P)
 everywhere None p = tt
@@ -133,9 +140,27 @@ script_ending : (b : Bool) (o : Outcome) → IsLoaded o.ending → IsLoaded (con
 script_ending true o h = tt
 script_ending false o h = h
 
-loaded_ending : (o : Option (List ℕ)) (p : Program) (seed : ℕ) → IsLoaded (fetched which.Script script_limit o (λ script. all_of (output_of p (words_of seed) script))).ending
-loaded_ending None p seed = tt
-loaded_ending (Some script) p seed = script_ending (ltb script_limit (length script)) (all_of (output_of p (words_of seed) script)) tt
+put_ending : (b : Bool) (o p : Outcome) → IsLoaded o.ending → IsLoaded p.ending → IsLoaded (cond b o p).ending
+put_ending true o p h k = h
+put_ending false o p h k = k
+
+run_ending : (text : World Task → List ℕ) (writes : List (List ℕ)) (ending : RunEnding) → IsLoaded (at_ending text writes ending).ending
+run_ending text writes (Whole last) = put_ending (ltb longest (length (text last))) _ _ tt tt
+run_ending text writes (BadLine r) = tt
+run_ending text writes (Limited s) = tt
+
+pub all_ending : (save : Option (List ℕ)) (text : World Task → List ℕ) (run : Output) → IsLoaded (all_of save text run).ending
+all_ending None text run = tt
+all_ending (Some name) text run = run_ending text run.writes run.ending
+
+loaded_ending : (o : Option (List ℕ)) (next : List ℕ → Outcome) → ((script : List ℕ) → IsLoaded (next script).ending) → IsLoaded (fetched which.Script script_limit o next).ending
+loaded_ending None next h = tt
+loaded_ending (Some script) next h = script_ending (ltb script_limit (length script)) (next script) (h script)
+
+after_ending : (form : Form) (files : Files) (project : List ℕ) (p : Program) → IsLoaded (after_load form files project p).ending
+after_ending form files project p =
+    loaded_ending (get files form.script) (λ script. all_of form.save (text_of_run project form.seed) (output_of p (words_of form.seed) script))
+    (λ script. all_ending form.save (text_of_run project form.seed) (output_of p (words_of form.seed) script))
 
 is_fetched : (ending : Ending) → IsLoaded ending → IsFetched ending
 is_fetched (unloaded (missing which.Project)) h = absurd h
@@ -145,9 +170,10 @@ is_fetched (unloaded (too_large which.Script limit)) h = tt
 is_fetched (unloaded (not_accepted r)) h = tt
 is_fetched told h = tt
 is_fetched (ran ending) h = tt
+is_fetched (unsaved n) h = tt
 
-pub loaded_fetched : (form : Form) (files : Files) (p : Program) → IsFetched (after_load form files p).ending
-loaded_fetched form files p = is_fetched _ (loaded_ending (get files form.script) p form.seed)
+pub loaded_fetched : (form : Form) (files : Files) (project : List ℕ) (p : Program) → IsFetched (after_load form files project p).ending
+loaded_fetched form files project p = is_fetched _ (after_ending form files project p)
 
 -- A project that is refused.
 
@@ -200,24 +226,24 @@ project_cause bytes r h k = load_cause bytes r h k
 
 -- A script that is not fetched.
 
-script_cause : (A : Type 0) (items : A → List ℕ) (files : Files) (form : Form) (p : Program) (failed wanted script_failed script_wanted : Type 0) (status : Status)
-    → Fetched (Some files) form.script which.Script script_limit script_failed script_wanted items (Err status) → AnswerCause failed wanted (after_load form files p).ending status
-script_cause A items files form p failed wanted f w ReadFault h = inr (loaded_ending (get files form.script) p form.seed)
-script_cause A items files form p failed wanted f w (TooLarge file limit) h =
-    ap (λ (o : Outcome). o.ending) (fetched_large which.Script script_limit (get files form.script) (λ script. all_of (output_of p (words_of form.seed) script)) h.2)
+script_cause : (A : Type 0) (items : A → List ℕ) (files : Files) (form : Form) (project : List ℕ) (p : Program) (failed wanted script_failed script_wanted : Type 0) (status : Status)
+    → Fetched (Some files) form.script which.Script script_limit script_failed script_wanted items (Err status) → AnswerCause failed wanted (after_load form files project p).ending status
+script_cause A items files form project p failed wanted f w ReadFault h = inr (after_ending form files project p)
+script_cause A items files form project p failed wanted f w (TooLarge file limit) h =
+    ap (λ (o : Outcome). o.ending) (fetched_large which.Script script_limit (get files form.script) (λ script. all_of form.save (text_of_run project form.seed) (output_of p (words_of form.seed) script)) h.2)
     ∙ ap (λ x. unloaded (too_large x script_limit)) (sym h.0) ∙ ap (λ l. unloaded (too_large file l)) (sym h.1)
-script_cause A items files form p failed wanted f w NoMemory h = inr (loaded_fetched form files p)
-script_cause A items files form p failed wanted f w Done h = absurd h
-script_cause A items files form p failed wanted f w Usage h = absurd h
-script_cause A items files form p failed wanted f w WriteFault h = absurd h
-script_cause A items files form p failed wanted f w (BadProject r) h = absurd h
-script_cause A items files form p failed wanted f w (BadScript r) h = absurd h
-script_cause A items files form p failed wanted f w (Limit l) h = absurd h
+script_cause A items files form project p failed wanted f w NoMemory h = inr (loaded_fetched form files project p)
+script_cause A items files form project p failed wanted f w Done h = absurd h
+script_cause A items files form project p failed wanted f w Usage h = absurd h
+script_cause A items files form project p failed wanted f w WriteFault h = absurd h
+script_cause A items files form project p failed wanted f w (BadProject r) h = absurd h
+script_cause A items files form project p failed wanted f w (BadScript r) h = absurd h
+script_cause A items files form project p failed wanted f w (Limit l) h = absurd h
 
-pub script_causes : (A : Type 0) (items : A → List ℕ) (held : Option Files) (form : Form) (p : Program) (failed wanted script_failed script_wanted : Type 0) (status : Status)
-    → Fetched held form.script which.Script script_limit script_failed script_wanted items (Err status) → IfSome held (λ files. AnswerCause failed wanted (after_load form files p).ending status)
-script_causes A items None form p failed wanted f w status h = tt
-script_causes A items (Some files) form p failed wanted f w status h = script_cause A items files form p failed wanted f w status h
+pub script_causes : (A : Type 0) (items : A → List ℕ) (held : Option Files) (form : Form) (project : List ℕ) (p : Program) (failed wanted script_failed script_wanted : Type 0) (status : Status)
+    → Fetched held form.script which.Script script_limit script_failed script_wanted items (Err status) → IfSome held (λ files. AnswerCause failed wanted (after_load form files project p).ending status)
+script_causes A items None form project p failed wanted f w status h = tt
+script_causes A items (Some files) form project p failed wanted f w status h = script_cause A items files form project p failed wanted f w status h
 
 -- A fetch that ends the call leaves nothing written, whatever is told of the files.
 pub unfetched_wrote : (A : Type 0) (items : A → List ℕ) (held : Option Files) (name : List ℕ) (file : Which) (limit : ℕ) (failed wanted : Type 0) (status : Status) (old : Option (List ℕ)) (frames : List (List ℕ))
@@ -232,22 +258,34 @@ unfetched_wrote A items held name file limit failed wanted (BadProject r) old fr
 unfetched_wrote A items held name file limit failed wanted (BadScript r) old frames h = absurd h
 unfetched_wrote A items held name file limit failed wanted (Limit l) old frames h = absurd h
 
+-- the project is fetched first
+pub load_calls : {A B : Type 0} (reads : Loading A → Type 0) (view : B → A) (files puts : ℕ) (status : Status) → 1 ≤ files → Loaded reads view (Err status) → CallsOf files puts status 1
+load_calls reads view files puts (BadProject r) some h = refl
+load_calls reads view files puts NoMemory some h = omega (arith, some)
+load_calls reads view files puts Done some h = absurd h
+load_calls reads view files puts Usage some h = absurd h
+load_calls reads view files puts ReadFault some h = absurd h
+load_calls reads view files puts WriteFault some h = absurd h
+load_calls reads view files puts (BadScript r) some h = absurd h
+load_calls reads view files puts (Limit l) some h = absurd h
+load_calls reads view files puts (TooLarge file l) some h = absurd h
+
 project_is_no_script : which.Project ≡ which.Script → ⊥
 project_is_no_script e = cc
 
 -- the script is fetched second
-pub script_fetches : (A : Type 0) (items : A → List ℕ) (held : Option Files) (name : List ℕ) (limit : ℕ) (failed wanted : Type 0) (status : Status)
-    → Fetched held name which.Script limit failed wanted items (Err status) → FetchesOf 2 status 2
-script_fetches A items held name limit failed wanted ReadFault h = (omega arith, omega arith)
-script_fetches A items held name limit failed wanted (TooLarge which.Project l) h = absurd (project_is_no_script h.0)
-script_fetches A items held name limit failed wanted (TooLarge which.Script l) h = refl
-script_fetches A items held name limit failed wanted NoMemory h = omega arith
-script_fetches A items held name limit failed wanted Done h = absurd h
-script_fetches A items held name limit failed wanted Usage h = absurd h
-script_fetches A items held name limit failed wanted WriteFault h = absurd h
-script_fetches A items held name limit failed wanted (BadProject r) h = absurd h
-script_fetches A items held name limit failed wanted (BadScript r) h = absurd h
-script_fetches A items held name limit failed wanted (Limit l) h = absurd h
+pub script_calls : (puts : ℕ) (A : Type 0) (items : A → List ℕ) (held : Option Files) (name : List ℕ) (limit : ℕ) (failed wanted : Type 0) (status : Status)
+    → Fetched held name which.Script limit failed wanted items (Err status) → CallsOf 2 puts status 2
+script_calls puts A items held name limit failed wanted ReadFault h = (omega arith, omega arith)
+script_calls puts A items held name limit failed wanted (TooLarge which.Project l) h = absurd (project_is_no_script h.0)
+script_calls puts A items held name limit failed wanted (TooLarge which.Script l) h = refl
+script_calls puts A items held name limit failed wanted NoMemory h = omega arith
+script_calls puts A items held name limit failed wanted Done h = absurd h
+script_calls puts A items held name limit failed wanted Usage h = absurd h
+script_calls puts A items held name limit failed wanted WriteFault h = absurd h
+script_calls puts A items held name limit failed wanted (BadProject r) h = absurd h
+script_calls puts A items held name limit failed wanted (BadScript r) h = absurd h
+script_calls puts A items held name limit failed wanted (Limit l) h = absurd h
 
 -- The lines were played, or the counts were told.
 pub played_cause : (ending : Ending) (failed wanted write_failed : Type 0) (status : Status) → IsLoaded ending → PlayedTo ending write_failed status → AnswerCause failed wanted ending status
@@ -261,27 +299,27 @@ played_cause ending failed wanted write_failed ReadFault l h = absurd h
 played_cause ending failed wanted write_failed (BadProject r) l h = absurd h
 played_cause ending failed wanted write_failed (TooLarge file limit) l h = absurd h
 
-pub played_fetches : (ending : Ending) (write_failed : Type 0) (status : Status) → PlayedTo ending write_failed status → FetchesOf 2 status 2
-played_fetches ending write_failed Done h = refl
-played_fetches ending write_failed (BadScript r) h = refl
-played_fetches ending write_failed (Limit l) h = refl
-played_fetches ending write_failed WriteFault h = refl
-played_fetches ending write_failed NoMemory h = omega arith
-played_fetches ending write_failed Usage h = absurd h
-played_fetches ending write_failed ReadFault h = absurd h
-played_fetches ending write_failed (BadProject r) h = absurd h
-played_fetches ending write_failed (TooLarge file limit) h = absurd h
+pub played_calls : (ending : Ending) (write_failed : Type 0) (puts before then after : ℕ) (status : Status) → PlayedTo ending write_failed status → then ≡ counted 2 before → PutsCalled then after puts status → Calls before after 2 puts status
+played_calls ending write_failed puts before then after Done h e k = (2 + puts, refl, k ∙ ap (counted puts) e ∙ sym (counted_more 2 puts before))
+played_calls ending write_failed puts before then after (BadScript r) h e k = (2, refl, k ∙ e)
+played_calls ending write_failed puts before then after (Limit l) h e k = (2, refl, k ∙ e)
+played_calls ending write_failed puts before then after WriteFault h e k = (2 + k.0, (omega arith, omega (arith, k.1)), k.2 ∙ ap (counted k.0) e ∙ sym (counted_more 2 k.0 before))
+played_calls ending write_failed puts before then after NoMemory h e k = (2 + k.0, omega (arith, k.1), k.2 ∙ ap (counted k.0) e ∙ sym (counted_more 2 k.0 before))
+played_calls ending write_failed puts before then after Usage h e k = absurd h
+played_calls ending write_failed puts before then after ReadFault h e k = absurd h
+played_calls ending write_failed puts before then after (BadProject r) h e k = absurd h
+played_calls ending write_failed puts before then after (TooLarge file limit) h e k = absurd h
 
-pub told_fetches : (ending : Ending) (write_failed : Type 0) (status : Status) → PlayedTo ending write_failed status → FetchesOf 1 status 1
-told_fetches ending write_failed Done h = refl
-told_fetches ending write_failed (BadScript r) h = refl
-told_fetches ending write_failed (Limit l) h = refl
-told_fetches ending write_failed WriteFault h = refl
-told_fetches ending write_failed NoMemory h = omega arith
-told_fetches ending write_failed Usage h = absurd h
-told_fetches ending write_failed ReadFault h = absurd h
-told_fetches ending write_failed (BadProject r) h = absurd h
-told_fetches ending write_failed (TooLarge file limit) h = absurd h
+pub told_calls : (ending : Ending) (write_failed : Type 0) (status : Status) → PlayedTo ending write_failed status → CallsOf 1 0 status 1
+told_calls ending write_failed Done h = refl
+told_calls ending write_failed (BadScript r) h = refl
+told_calls ending write_failed (Limit l) h = refl
+told_calls ending write_failed WriteFault h = (omega arith, omega arith)
+told_calls ending write_failed NoMemory h = omega arith
+told_calls ending write_failed Usage h = absurd h
+told_calls ending write_failed ReadFault h = absurd h
+told_calls ending write_failed (BadProject r) h = absurd h
+told_calls ending write_failed (TooLarge file limit) h = absurd h
 
 -- The words of a seed.
 pub seeded_words : (seed drawn : ℕ) (stream : Stream) → drawn ≡ 0 → stream ≡ without 0 (answers (seeded seed)) → record { stream = stream; drawn = drawn } ≡ words_of seed

@@ -3,3 +3,6 @@ pub mod Programs
 pub mod Outputs
 pub mod Turns
 pub mod Calls
+pub mod Saved
+pub mod SavedRun
+pub mod Ends

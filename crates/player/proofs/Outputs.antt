@@ -1,5 +1,5 @@
 -- An output and the part of it that was written.
-use Rattle.std.proofs.Common.{◌≡◌, ℕ, zero, suc, ◌+◌, ◌≤◌, List, [], ◌∷◌, ◌++◌, length, take, Option, Some, Err, refl, sym, ap, ◌∙◌, subst, arith, append_assoc, append-nil, length-append}
+use Rattle.std.proofs.Common.{◌≡◌, ℕ, zero, suc, ◌+◌, ◌≤◌, List, [], ◌∷◌, ◌++◌, length, take, Option, Err, refl, sym, ap, ◌∙◌, subst, inl, arith, append_assoc, append-nil, length-append}
 use Rattle.std.specs.List.{concat}
 use Rattle.std.proofs.lemmas.List.{take-append-le}
 use Rattle.std.proofs.lemmas.List.Folds.{concat-append}
@@ -12,9 +12,9 @@ use Rattle.script_machine.specs.World.{World}
 use Rattle.script_machine.specs.Tasks.{Task}
 use Rattle.script_machine.specs.declared.lines.LineRefusal.{LineRefusal}
 use Rattle.script_machine.specs.declared.lines.LineRefusal.TheVariants as line_refusal
-use Rattle.script_machine.specs.Output.{Output, Ending, BadLine, Limited, in_front}
-use Rattle.player.specs.Promise.{Wrote, Writes, counted, ran, stop_of}
-use Rattle.player.specs.Stages.{met, IsLineEnd, LineEnds, LineWrote, LineWrites, PlayedTo}
+use Rattle.script_machine.specs.Output.{Output, Ending, BadLine, in_front}
+use Rattle.player.specs.Promise.{Wrote, Writes, counted, ran, ending_at}
+use Rattle.player.specs.Stages.{HasMet, IsLineEnd, LineEnds, LineWrote, LineWrites, PlayedTo}
 use Rattle.player.specs.declared.status.Limit.{Limit as LimitMet}
 use Rattle.player.specs.declared.status.Status.{Status}
 use Rattle.player.specs.declared.status.Status.TheVariants.{Done, Usage, ReadFault, WriteFault, BadProject, BadScript, Limit, TooLarge, NoMemory}
@@ -27,7 +27,7 @@ pub record IsPartOf (all left : Output) (old new : Option (List ℕ)) (before af
   pub bytes : Gained old new (concat done)
   pub calls : after ≡ counted (length done) before
 
-counted_more : (m n count : ℕ) → counted (m + n) count ≡ counted n (counted m count)
+pub counted_more : (m n count : ℕ) → counted (m + n) count ≡ counted n (counted m count)
 counted_more zero n count = let same : zero + n ≡ n = omega arith in ap (λ k. counted k count) same
 counted_more (suc m) n count =
     let next : suc m + n ≡ suc (m + n) = omega arith in
@@ -123,14 +123,14 @@ err_wrote all left next fs old mid new before then failed (TooLarge file limit) 
 err_wrote all left next fs old mid new before then failed NoMemory part e last h = part_frames all left old mid new before then part h
 
 pub err_writes : (all left next : Output) (fs : List (List ℕ)) (old mid : Option (List ℕ)) (before then after : ℕ) (status : Status) → IsPartOf all left old mid before then → left ≡ in_front fs next → IsLast status next
-    → LineWrites then after fs {A = Unit {0}} (Err status) → Writes before after all.writes status
+    → LineWrites then after fs {A = Unit {0}} (Err status) → Writes before after ⊥ all.writes status
 err_writes all left next fs old mid before then after Done part e last h = absurd h
 err_writes all left next fs old mid before then after Usage part e last h = absurd h
 err_writes all left next fs old mid before then after ReadFault part e last h = absurd h
 err_writes all left next fs old mid before then after WriteFault part e last h =
     let len = all_length all left next fs old mid before then part e in
     let one : length part.done + 1 ≡ suc (length part.done) = omega arith in
-    (length part.done, omega (arith, len, h.0), some_more (length part.done) 1 before then after part.calls h.1 ∙ ap (λ n. counted n before) one)
+    inl (length part.done, omega (arith, len, h.0), some_more (length part.done) 1 before then after part.calls h.1 ∙ ap (λ n. counted n before) one)
 err_writes all left next fs old mid before then after (BadProject r) part e last h = absurd h
 err_writes all left next fs old mid before then after (BadScript r) part e last h = absurd h
 err_writes all left next fs old mid before then after (Limit l) part e last h = whole_writes all left next fs old mid before then after part e last h
@@ -141,14 +141,14 @@ err_writes all left next fs old mid before then after NoMemory part e last h =
 
 -- why an early end of a line ends the run
 pub err_cause : (all left next : Output) (fs : List (List ℕ)) (old mid new : Option (List ℕ)) (before then : ℕ) (failed : Type 0) (o : Outcome (World Task)) (status : Status) → IsPartOf all left old mid before then → left ≡ in_front fs next
-    → ((l : LimitMet) → o ≡ met l → next.ending ≡ Limited (stop_of l)) → LineEnds {A = Unit {0}} o (Err status) → LineWrote mid new fs failed {A = Unit {0}} (Err status) → PlayedTo (ran all.ending) failed status
+    → ((l : LimitMet) → HasMet o l → ran next.ending ≡ ending_at l) → LineEnds {A = Unit {0}} o (Err status) → LineWrote mid new fs failed {A = Unit {0}} (Err status) → PlayedTo (ran all.ending) failed status
 err_cause all left next fs old mid new before then failed o Done part e k h w = absurd h
 err_cause all left next fs old mid new before then failed o Usage part e k h w = absurd h
 err_cause all left next fs old mid new before then failed o ReadFault part e k h w = absurd h
 err_cause all left next fs old mid new before then failed o WriteFault part e k h w = w.0
 err_cause all left next fs old mid new before then failed o (BadProject r) part e k h w = absurd h
 err_cause all left next fs old mid new before then failed o (BadScript r) part e k h w = absurd h
-err_cause all left next fs old mid new before then failed o (Limit l) part e k h w = ap ran (sym part.ending ∙ ap (λ (x : Output). x.ending) e ∙ k l h)
+err_cause all left next fs old mid new before then failed o (Limit l) part e k h w = ap ran (sym part.ending ∙ ap (λ (x : Output). x.ending) e) ∙ k l h
 err_cause all left next fs old mid new before then failed o (TooLarge file limit) part e k h w = absurd h
 err_cause all left next fs old mid new before then failed o NoMemory part e k h w = tt
 
@@ -193,7 +193,7 @@ few_writes all left old mid before then part =
     let len : length all.writes ≡ length part.done + length left.writes = ap length part.front ∙ length-append part.done left.writes in
     (length part.done, omega (arith, len), part.calls)
 
-pub refused_writes : (all left : Output) (old mid : Option (List ℕ)) (before then : ℕ) (r : LineRefusal) (status : Status) → IsPartOf all left old mid before then → IsLineEnd r status → ((r ≡ line_refusal.NoMemory → ⊥) → left.writes ≡ []) → Writes before then all.writes status
+pub refused_writes : (all left : Output) (old mid : Option (List ℕ)) (before then : ℕ) (r : LineRefusal) (status : Status) → IsPartOf all left old mid before then → IsLineEnd r status → ((r ≡ line_refusal.NoMemory → ⊥) → left.writes ≡ []) → Writes before then ⊥ all.writes status
 refused_writes all left old mid before then r (BadScript s) part h k = ended_writes all left old mid before then part (k h.1)
 refused_writes all left old mid before then r NoMemory part h k = few_writes all left old mid before then part
 refused_writes all left old mid before then r Done part h k = absurd h

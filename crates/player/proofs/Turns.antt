@@ -1,5 +1,5 @@
 -- One line of a script.
-use Rattle.std.proofs.Common.{◌≡◌, ℕ, ◌+◌, List, [], ◌∷◌, Option, None, Some, Err, refl, sym, ap, ◌∙◌, subst}
+use Rattle.std.proofs.Common.{◌≡◌, ℕ, ◌+◌, List, [], ◌∷◌, Option, None, Some, Err, refl, ap, ◌∙◌}
 use Rattle.std.specs.Prelude.{drop, option_map, codes, ◌++◌}
 use Rattle.std.specs.Fmt.{digits}
 use Rattle.script_words.specs.declared.stops.Stop.TheVariants as stop
@@ -14,8 +14,8 @@ use Rattle.script_machine.specs.ScriptText.{Reading, Good, Refused, reading_of, 
 use Rattle.script_machine.specs.Tasks.{Task}
 use Rattle.script_machine.specs.World.{World}
 use Rattle.input_script.specs.Reader.{Reader, first_reading, next_reading, Refuses}
-use Rattle.player.specs.Promise.{stop_of}
-use Rattle.player.specs.Stages.{line_writes, met, LineEnds, IsLineEnd}
+use Rattle.player.specs.Promise.{ran, ending_at}
+use Rattle.player.specs.Stages.{line_writes, HasMet, LineEnds}
 use Rattle.player.specs.declared.status.Limit.{Limit as LimitMet}
 use Rattle.player.specs.declared.status.Limit.TheVariants as limit
 use Rattle.player.specs.declared.status.Status.{Status}
@@ -76,16 +76,20 @@ pub turn_refused : (T : Type 0) (p : Program) (r : Reader) (w : World Task) (x :
 turn_refused T p r w x k h = read_refused p (r.number + 1) r.last w r.lines x (refusal_is T x (next_reading r) k h)
 
 -- a limit ends the run
-met_ends : (p : Program) (n last : ℕ) (lines : List (List ℕ)) (l : LimitMet) → follows p n last (met l) lines ≡ ends [] (Limited (stop_of l))
-met_ends p n last lines limit.Stack = refl
-met_ends p n last lines (limit.Text m) = refl
-met_ends p n last lines (limit.Counter which) = refl
+pub limit_ends : (p : Program) (n last : ℕ) (lines : List (List ℕ)) (o : Outcome (World Task)) (l : LimitMet) → HasMet o l → ran (follows p n last o lines).ending ≡ ending_at l
+limit_ends p n last lines o limit.Stack h = ap (λ x. ran (follows p n last x lines).ending) h
+limit_ends p n last lines o (limit.Text m) h = ap (λ x. ran (follows p n last x lines).ending) h
+limit_ends p n last lines o (limit.Counter which) h = ap (λ x. ran (follows p n last x lines).ending) h
+limit_ends p n last lines o (limit.Save m) h = absurd h
 
-pub limit_ends : (p : Program) (n last : ℕ) (lines : List (List ℕ)) (o : Outcome (World Task)) (l : LimitMet) → o ≡ met l → follows p n last o lines ≡ ends [] (Limited (stop_of l))
-limit_ends p n last lines o l e = ap (λ x. follows p n last x lines) e ∙ met_ends p n last lines l
+limit_writes : (p : Program) (n last : ℕ) (lines : List (List ℕ)) (o : Outcome (World Task)) (l : LimitMet) → HasMet o l → (follows p n last o lines).writes ≡ []
+limit_writes p n last lines o limit.Stack h = ap (λ x. (follows p n last x lines).writes) h
+limit_writes p n last lines o (limit.Text m) h = ap (λ x. (follows p n last x lines).writes) h
+limit_writes p n last lines o (limit.Counter which) h = ap (λ x. (follows p n last x lines).writes) h
+limit_writes p n last lines o (limit.Save m) h = absurd h
 
 pub line_last : (p : Program) (n last : ℕ) (lines : List (List ℕ)) (o : Outcome (World Task)) (status : Status) → LineEnds {A = Unit {0}} o (Err status) → IsLast status (follows p n last o lines)
-line_last p n last lines o (Limit l) h = ap (λ (x : Output). x.writes) (limit_ends p n last lines o l h)
+line_last p n last lines o (Limit l) h = limit_writes p n last lines o l h
 line_last p n last lines o Done h = tt
 line_last p n last lines o Usage h = tt
 line_last p n last lines o ReadFault h = tt

@@ -1,25 +1,30 @@
 -- The command's words.
-use Rattle.std.specs.Prelude.{ℕ, ◌-◌, ◌^◌, ◌&&◌, List, [], ◌∷◌, Option, None, Some, bytes_eq, codes, if◌then◌else◌}
+use Rattle.std.specs.Prelude.{ℕ, ◌-◌, ◌^◌, List, [], ◌∷◌, Option, None, Some, bytes_eq, codes, if◌then◌else◌}
 use Rattle.player.specs.WholeNumbers.{whole_up_to}
 use Rattle.player.specs.declared.command.Command.{Command as CommandOfWords}
 use Rattle.player.specs.declared.command.Command.TheVariants as words
 
--- the names of the files and the seed in `play PROJECT SCRIPT SEED -`
+-- the names of the files and the seed in `play PROJECT SCRIPT SEED SAVE`; with `-` nothing is saved
 pub record Form : Type 0 where
   pub project : List ℕ
   pub script : List ℕ
   pub seed : ℕ
+  pub save : Option (List ℕ)
 
 -- what the words ask for: to play a project, or to check the project in a file
 pub data Command : Type 0 where
   play : Form → Command
   check : (project : List ℕ) → Command
 
+-- the name under which the run is saved, unless it is `-`
+abbrev pub name_to_save : List ℕ → Option (List ℕ)
+name_to_save save = if bytes_eq save (codes "-") then None else Some save
+
 -- the seed is a whole number below 2^64
 abbrev pub play_by : List ℕ → List ℕ → List ℕ → List ℕ → Option ℕ → List ℕ → Option Command
 play_by command project script seed None save = None
 play_by command project script seed (Some number) save =
-    if bytes_eq command (codes "play") && bytes_eq save (codes "-") then Some (play (record { project = project; script = script; seed = number })) else None
+    if bytes_eq command (codes "play") then Some (play (record { project = project; script = script; seed = number; save = name_to_save save })) else None
 
 -- `check PROJECT`
 abbrev pub check_by : List ℕ → List ℕ → Option Command
@@ -33,5 +38,5 @@ command_of words = None
 
 -- a helper of private functions: a command without where its words lie in memory
 abbrev pub command_view : CommandOfWords → Command
-command_view (words.Play project script seed) = play (record { project = project.now; script = script.now; seed = seed })
+command_view (words.Play project script seed save) = play (record { project = project.now; script = script.now; seed = seed; save = name_to_save save.now })
 command_view (words.Check project) = check project.now

@@ -4,3 +4,4 @@ pub mod Command
 pub mod Promise
 pub mod Stages
 pub mod Told
+pub mod Saving

@@ -2,17 +2,18 @@
 --
 -- The machine that it speaks of is that of script_machine/specs: script trees, threads with what is left to do, slices,
 -- passes, frames. A frame's text is that of FrameText there; Output goes through the lines of a script, which ScriptText
--- reads; Command reads the words; Limits names the numbers. Which project files are accepted, the refusal of the others, and
+-- reads; the text of a saved run is that of saved_text/specs, Saved; Command reads the words; Limits names the numbers. Which project files are accepted, the refusal of the others, and
 -- the program of an accepted file, is that of project_file/specs, Refusals.
-use Rattle.std.specs.Prelude.{◌≡◌, ◌⊎◌, ℕ, zero, suc, ◌<◌, ◌≤◌, nat_lt, Bool, true, false, List, [], ◌∷◌, length, take, codes, Option, None, Some, IfSome, IsSome, if◌then◌else◌}
+use Rattle.std.specs.Prelude.{◌≡◌, ◌⊎◌, ℕ, zero, suc, ◌+◌, ◌<◌, ◌≤◌, nat_lt, Bool, true, false, List, [], ◌∷◌, ◌++◌, length, take, codes, Option, None, Some, IfSome, IsSome, if◌then◌else◌}
 use Rattle.std.specs.Fmt.{decimal}
 use Rattle.std.specs.List.{concat}
 use Rattle.std.specs.FinMap.{get}
 use Rattle.sv_channels.specs.Counts.{next_count, Rose, NoneRose}
 use Rattle.sv_channels.specs.Files.{Files}
+use Rattle.sv_channels.specs.Shelf.{Puts, KeepsOthers}
 use Rattle.sv_channels.specs.Sink.{Gained, GainedPart}
+use Rattle.sha2.specs.Sha256.{sha256}
 use Rattle.script_words.specs.Words.{answers, seeded}
-use Rattle.script_words.specs.declared.stops.Stop.{Stop}
 use Rattle.script_words.specs.declared.stops.Stop.TheVariants as stop
 use Rattle.script_machine.specs.Words.{Words}
 use Rattle.script_machine.specs.Program.{Program}
@@ -20,10 +21,15 @@ use Rattle.script_machine.specs.First.{first_world}
 use Rattle.script_machine.specs.FrameText.{line}
 use Rattle.script_machine.specs.ScriptText.{lines_of}
 use Rattle.script_machine.specs.Output.{Output, Ending as RunEnding, Whole, BadLine, Limited, played}
+use Rattle.script_machine.specs.Tasks.{Task}
+use Rattle.script_machine.specs.World.{World}
 use Rattle.project_file.specs.Reading.{File, blocks_in}
 use Rattle.project_file.specs.Refusals.{IsRefusal, IsAccepted, IsProject}
 use Rattle.project_file.specs.declared.refusals.Refusal.{Refusal}
 use Rattle.project_check.specs.Counts.{block_count}
+use Rattle.saved_text.specs.Saved.{snapshot, saved_text}
+use Rattle.saved_text.specs.Saving.{longest}
+use Rattle.saved_text.specs.Tasks.{task}
 use Rattle.player.specs.Limits.{project_limit, script_limit}
 use Rattle.player.specs.Command.{Form, Command, play, check, command_of}
 use Rattle.player.specs.Told.{text_of_refusal}
@@ -69,22 +75,47 @@ pub data LoadEnding : Type 0 where
   too_large : Which → ℕ → LoadEnding
   not_accepted : Refusal → LoadEnding
 
--- the files were not loaded; the counts of a project were told; or its script ended so
+-- the files were not loaded; the counts of a project were told; its script ended so; or it ran to its end, but the text of
+-- the saved run, of so many bytes, is too long
 pub data Ending : Type 0 where
   unloaded : LoadEnding → Ending
   told : Ending
   ran : RunEnding → Ending
+  unsaved : (length : ℕ) → Ending
 
--- the texts that are written, each by one write, and the ending
+-- the texts that are written, each by one write; the ending; and the text that is put, if the run is saved
 pub record Outcome : Type 0 where
   pub texts : List (List ℕ)
   pub ending : Ending
+  pub saved : Option (List ℕ)
 
 abbrev pub ends : LoadEnding → Outcome
-ends ending = record { texts = []; ending = unloaded ending }
+ends ending = record { texts = []; ending = unloaded ending; saved = None }
 
-abbrev pub all_of : Output → Outcome
-all_of run = record { texts = run.writes; ending = ran run.ending }
+-- nothing is saved
+abbrev pub only_written : List (List ℕ) → RunEnding → Outcome
+only_written writes ending = record { texts = writes; ending = ran ending; saved = None }
+
+-- `limit save LENGTH`
+abbrev pub limit_save_line : ℕ → List ℕ
+limit_save_line n = line (codes "limit" ∷ codes "save" ∷ decimal n ∷ [])
+
+-- the text of a run that is saved is put where it has at most 128 MiB; else a line tells its length
+abbrev pub put_or_told : (text : List ℕ) → List (List ℕ) → RunEnding → Outcome
+put_or_told text writes ending =
+    if nat_lt longest (length text)
+    then record { texts = writes ++ limit_save_line (length text) ∷ []; ending = unsaved (length text); saved = None }
+    else record { texts = writes; ending = ran ending; saved = Some text }
+
+-- a run is saved where its script was played to its end
+abbrev pub at_ending : (World Task → List ℕ) → List (List ℕ) → RunEnding → Outcome
+at_ending text writes (Whole last) = put_or_told (text last) writes (Whole last)
+at_ending text writes ending = only_written writes ending
+
+-- and where there is a name to save it under
+abbrev pub all_of : (save : Option (List ℕ)) → (World Task → List ℕ) → Output → Outcome
+all_of None text run = only_written run.writes run.ending
+all_of (Some name) text run = at_ending text run.writes run.ending
 
 -- a file that is held and within its limit
 abbrev pub fetched : Which → ℕ → Option (List ℕ) → (List ℕ → Outcome) → Outcome
@@ -103,20 +134,27 @@ words_of seed = record { stream = answers (seeded seed); drawn = 0 }
 abbrev pub output_of : Program → Words → (script : List ℕ) → Output
 output_of p words script = played p 1 0 (first_world p words) (lines_of script)
 
--- fetch and load the project (32 MiB), fetch the script (16 MiB), play its lines
+-- the text of a saved run of a project file: it names the SHA-256 of the file and the seed of the random words
+abbrev pub text_from : (digest : List ℕ) → (seed : ℕ) → World Task → List ℕ
+text_from digest seed w = saved_text task (snapshot digest seed w)
+
+abbrev pub text_of_run : (project : List ℕ) → (seed : ℕ) → World Task → List ℕ
+text_of_run project seed w = text_from (sha256 project) seed w
+
+-- fetch and load the project (32 MiB), fetch the script (16 MiB), play its lines, save the run
 abbrev pub outcome_of : Files → Form → Loading Program → Outcome
 outcome_of files form loading =
     fetched which.Project project_limit (get files form.project) (λ project.
     loaded loading (λ p.
     fetched which.Script script_limit (get files form.script) (λ script.
-    all_of (output_of p (words_of form.seed) script))))
+    all_of form.save (text_of_run project form.seed) (output_of p (words_of form.seed) script))))
 
 -- `accepted T B`: T targets and B blocks
 abbrev pub accepted_line : Counts → List ℕ
 accepted_line c = line (codes "accepted" ∷ decimal c.targets ∷ decimal c.blocks ∷ [])
 
 abbrev pub told_counts : Counts → Outcome
-told_counts c = record { texts = accepted_line c ∷ []; ending = told }
+told_counts c = record { texts = accepted_line c ∷ []; ending = told; saved = None }
 
 -- fetch the project (32 MiB), check it, and tell its counts
 abbrev pub check_outcome : Files → List ℕ → Loading Counts → Outcome
@@ -134,6 +172,16 @@ abbrev pub FetchFailed : (List ℕ → ℕ) → (List ℕ → ℕ) → Command �
 FetchFailed before after (play form) = Rose (before form.project) (after form.project) ⊎ Rose (before form.script) (after form.script)
 FetchFailed before after (check project) = Rose (before project) (after project)
 
+-- the name that a command saves under
+abbrev pub name_of_save : Command → Option (List ℕ)
+name_of_save (play form) = form.save
+name_of_save (check project) = None
+
+-- a put under the name has failed in this call
+abbrev pub PutFailed : (List ℕ → ℕ) → (List ℕ → ℕ) → Option (List ℕ) → Type 0
+PutFailed before after None = ⊥
+PutFailed before after (Some name) = Rose (before name) (after name)
+
 -- all was done: the counts were told, or the script was played to its end
 abbrev pub is_whole : Ending → Bool
 is_whole (unloaded e) = false
@@ -141,19 +189,21 @@ is_whole told = true
 is_whole (ran (Whole last)) = true
 is_whole (ran (BadLine r)) = false
 is_whole (ran (Limited s)) = false
+is_whole (unsaved n) = false
 
--- the stop of a limit
-abbrev pub stop_of : LimitMet → Stop
-stop_of limit.Stack = stop.Stack
-stop_of (limit.Text n) = stop.Text n
-stop_of (limit.Counter which) = stop.Counter which
+-- how the run ends at a limit
+abbrev pub ending_at : LimitMet → Ending
+ending_at limit.Stack = ran (Limited stop.Stack)
+ending_at (limit.Text n) = ran (Limited (stop.Text n))
+ending_at (limit.Counter which) = ran (Limited (stop.Counter which))
+ending_at (limit.Save n) = unsaved n
 
 -- the status tells the ending
 abbrev pub Tells : Status → Ending → Type 0
 Tells Done ending = is_whole ending ≡ true
 Tells (BadProject r) ending = ending ≡ unloaded (not_accepted r)
 Tells (BadScript r) ending = ending ≡ ran (BadLine r)
-Tells (Limit l) ending = ending ≡ ran (Limited (stop_of l))
+Tells (Limit l) ending = ending ≡ ending_at l
 Tells (TooLarge file limit) ending = ending ≡ unloaded (too_large file limit)
 Tells Usage ending = ⊥
 Tells ReadFault ending = ⊥
@@ -169,6 +219,7 @@ IsFetched (unloaded (too_large which.Script limit)) = Unit {0}
 IsFetched (unloaded (not_accepted r)) = Unit {0}
 IsFetched told = Unit {0}
 IsFetched (ran ending) = Unit {0}
+IsFetched (unsaved n) = Unit {0}
 
 -- and it is accepted
 abbrev pub IsLoaded : Ending → Type 0
@@ -179,6 +230,7 @@ IsLoaded (unloaded (too_large which.Script limit)) = Unit {0}
 IsLoaded (unloaded (not_accepted r)) = ⊥
 IsLoaded told = Unit {0}
 IsLoaded (ran ending) = Unit {0}
+IsLoaded (unsaved n) = Unit {0}
 
 -- a fault only where its count rose; want of memory stands in no other status
 abbrev pub FaultCause : Type 0 → Type 0 → Status → Type 0
@@ -205,17 +257,22 @@ AnswerCause project_failed wanted ending (BadScript r) = Tells (BadScript r) end
 AnswerCause project_failed wanted ending (Limit l) = Tells (Limit l) ending
 AnswerCause project_failed wanted ending (TooLarge file limit) = Tells (TooLarge file limit) ending
 
--- no fetch failed in this call unless it is told, and no write failed unless it is told
-abbrev pub HidesNothing : (List ℕ → ℕ) → (List ℕ → ℕ) → ℕ → ℕ → Status → Type 0
-HidesNothing fetches fetches_now writes writes_now ReadFault = writes_now ≡ writes
-HidesNothing fetches fetches_now writes writes_now WriteFault = NoneRose fetches fetches_now
-HidesNothing fetches fetches_now writes writes_now Done = NoneRose fetches fetches_now × (writes_now ≡ writes)
-HidesNothing fetches fetches_now writes writes_now Usage = NoneRose fetches fetches_now × (writes_now ≡ writes)
-HidesNothing fetches fetches_now writes writes_now (BadProject r) = NoneRose fetches fetches_now × (writes_now ≡ writes)
-HidesNothing fetches fetches_now writes writes_now (BadScript r) = NoneRose fetches fetches_now × (writes_now ≡ writes)
-HidesNothing fetches fetches_now writes writes_now (Limit l) = NoneRose fetches fetches_now × (writes_now ≡ writes)
-HidesNothing fetches fetches_now writes writes_now (TooLarge file limit) = NoneRose fetches fetches_now × (writes_now ≡ writes)
-HidesNothing fetches fetches_now writes writes_now NoMemory = NoneRose fetches fetches_now × (writes_now ≡ writes)
+-- no fetch, put or write failed in this call unless it is told
+pub record NothingFailed (fetched fetched_now put put_now : List ℕ → ℕ) (written written_now : ℕ) : Type 0 where
+  pub fetches : NoneRose fetched fetched_now
+  pub puts : NoneRose put put_now
+  pub writes : written_now ≡ written
+
+abbrev pub HidesNothing : (fetches fetches_now puts puts_now : List ℕ → ℕ) → (writes writes_now : ℕ) → Status → Type 0
+HidesNothing fetches fetches_now puts puts_now writes writes_now ReadFault = NoneRose puts puts_now × (writes_now ≡ writes)
+HidesNothing fetches fetches_now puts puts_now writes writes_now WriteFault = NoneRose fetches fetches_now
+HidesNothing fetches fetches_now puts puts_now writes writes_now Done = NothingFailed fetches fetches_now puts puts_now writes writes_now
+HidesNothing fetches fetches_now puts puts_now writes writes_now Usage = NothingFailed fetches fetches_now puts puts_now writes writes_now
+HidesNothing fetches fetches_now puts puts_now writes writes_now (BadProject r) = NothingFailed fetches fetches_now puts puts_now writes writes_now
+HidesNothing fetches fetches_now puts puts_now writes writes_now (BadScript r) = NothingFailed fetches fetches_now puts puts_now writes writes_now
+HidesNothing fetches fetches_now puts puts_now writes writes_now (Limit l) = NothingFailed fetches fetches_now puts puts_now writes writes_now
+HidesNothing fetches fetches_now puts puts_now writes writes_now (TooLarge file limit) = NothingFailed fetches fetches_now puts puts_now writes writes_now
+HidesNothing fetches fetches_now puts puts_now writes writes_now NoMemory = NothingFailed fetches fetches_now puts puts_now writes writes_now
 
 -- 4. What was written
 
@@ -251,46 +308,76 @@ abbrev pub counted : ℕ → ℕ → ℕ
 counted zero count = count
 counted (suc n) count = counted n (next_count count)
 
--- how many files a command fetches
+-- how many files a command fetches, and how many it puts
 abbrev pub files_of : Command → ℕ
 files_of (play form) = 2
 files_of (check project) = 1
 
--- each file is fetched once at most, in the order of work
-abbrev pub FetchesOf : (files : ℕ) → Status → ℕ → Type 0
-FetchesOf files Usage n = n ≡ 0
-FetchesOf files (BadProject r) n = n ≡ 1
-FetchesOf files (TooLarge which.Project limit) n = n ≡ 1
-FetchesOf files (TooLarge which.Script limit) n = n ≡ 2
-FetchesOf files Done n = n ≡ files
-FetchesOf files (BadScript r) n = n ≡ files
-FetchesOf files (Limit l) n = n ≡ files
-FetchesOf files WriteFault n = n ≡ files
-FetchesOf files ReadFault n = (1 ≤ n) × (n ≤ files)
-FetchesOf files NoMemory n = n ≤ files
+abbrev pub puts_of : Option (List ℕ) → ℕ
+puts_of None = 0
+puts_of (Some name) = 1
+
+-- each file is fetched once at most, in the order of work, and put once at most
+abbrev pub CallsOf : (files puts : ℕ) → Status → ℕ → Type 0
+CallsOf files puts Usage n = n ≡ 0
+CallsOf files puts (BadProject r) n = n ≡ 1
+CallsOf files puts (TooLarge which.Project limit) n = n ≡ 1
+CallsOf files puts (TooLarge which.Script limit) n = n ≡ 2
+CallsOf files puts Done n = n ≡ files + puts
+CallsOf files puts (BadScript r) n = n ≡ files
+CallsOf files puts (Limit l) n = n ≡ files
+CallsOf files puts WriteFault n = (files ≤ n) × (n ≤ files + puts)
+CallsOf files puts ReadFault n = (1 ≤ n) × (n ≤ files)
+CallsOf files puts NoMemory n = n ≤ files + puts
 
 -- the shelf was called so often
-abbrev pub Fetches : ℕ → ℕ → (files : ℕ) → Status → Type 0
-Fetches before after files status = (n : ℕ) × FetchesOf files status n × (after ≡ counted n before)
+abbrev pub Calls : (before after files puts : ℕ) → Status → Type 0
+Calls before after files puts status = (n : ℕ) × CallsOf files puts status n × (after ≡ counted n before)
 
--- words that ask for nothing fetch nothing
-abbrev pub FetchesFor : ℕ → ℕ → Option Command → Status → Type 0
-FetchesFor before after None status = after ≡ before
-FetchesFor before after (Some command) status = Fetches before after (files_of command) status
+-- words that ask for nothing call nothing
+abbrev pub CallsFor : ℕ → ℕ → Option Command → Status → Type 0
+CallsFor before after None status = after ≡ before
+CallsFor before after (Some command) status = Calls before after (files_of command) (puts_of (name_of_save command)) status
 
--- one write for each text: for all texts of the outcome; up to the one that failed; or for some, before want of memory
-abbrev pub Writes : ℕ → ℕ → List (List ℕ) → Status → Type 0
-Writes before after texts Done = after ≡ counted (length texts) before
-Writes before after texts (BadScript r) = after ≡ counted (length texts) before
-Writes before after texts (Limit l) = after ≡ counted (length texts) before
-Writes before after texts WriteFault = (n : ℕ) × (n < length texts) × (after ≡ counted (suc n) before)
-Writes before after texts NoMemory = (n : ℕ) × (n ≤ length texts) × (after ≡ counted n before)
-Writes before after texts Usage = after ≡ before
-Writes before after texts ReadFault = after ≡ before
-Writes before after texts (BadProject r) = after ≡ before
-Writes before after texts (TooLarge file limit) = after ≡ before
+-- one write for each text: for all texts of the outcome; up to the one that failed, or all where a put failed; or for some,
+-- before want of memory
+abbrev pub Writes : ℕ → ℕ → (put_failed : Type 0) → List (List ℕ) → Status → Type 0
+Writes before after put_failed texts Done = after ≡ counted (length texts) before
+Writes before after put_failed texts (BadScript r) = after ≡ counted (length texts) before
+Writes before after put_failed texts (Limit l) = after ≡ counted (length texts) before
+Writes before after put_failed texts WriteFault = ((n : ℕ) × (n < length texts) × (after ≡ counted (suc n) before)) ⊎ (put_failed × (after ≡ counted (length texts) before))
+Writes before after put_failed texts NoMemory = (n : ℕ) × (n ≤ length texts) × (after ≡ counted n before)
+Writes before after put_failed texts Usage = after ≡ before
+Writes before after put_failed texts ReadFault = after ≡ before
+Writes before after put_failed texts (BadProject r) = after ≡ before
+Writes before after put_failed texts (TooLarge file limit) = after ≡ before
 
--- 6. Of which calls a clause speaks: what the shelf holds is told, and the project file stands for the loading
+-- 6. What the shelf holds afterwards
+
+-- the text that is put, if one is
+abbrev pub PutsText : Option Files → Option Files → List ℕ → Option (List ℕ) → Type 0
+PutsText old new name None = new ≡ old
+PutsText old new name (Some text) = Puts old new name text
+
+-- after Done, where there is a name to save under, the saved run under this name and all else as it was; after a failed put
+-- nothing is told of this name alone; in every other case what it held
+abbrev pub Shelved : Option Files → Option Files → (put_failed : Type 0) → (save : Option (List ℕ)) → Outcome → Status → Type 0
+Shelved old new put_failed (Some name) o Done = PutsText old new name o.saved
+Shelved old new put_failed (Some name) o WriteFault = (new ≡ old) ⊎ (put_failed × KeepsOthers old new name)
+Shelved old new put_failed save o status = new ≡ old
+
+-- no status but these two leaves another file, whatever is told of the files
+abbrev pub IsUnshelved : Option Files → Option Files → (save : Option (List ℕ)) → Status → Type 0
+IsUnshelved old new (Some name) Done = Unit {0}
+IsUnshelved old new (Some name) WriteFault = Unit {0}
+IsUnshelved old new save status = new ≡ old
+
+-- words that ask for nothing leave what the shelf holds
+abbrev pub UnshelvedFor : Option Files → Option Files → Option Command → Status → Type 0
+UnshelvedFor old new None status = new ≡ old
+UnshelvedFor old new (Some command) status = IsUnshelved old new (name_of_save command) status
+
+-- 7. Of which calls a clause speaks: what the shelf holds is told, and the project file stands for the loading
 
 abbrev pub Promised : Option Files → Command → (Outcome → Type 0) → Type 0
 Promised held (play form) fact =

@@ -15,10 +15,10 @@ use Rattle.script_machine.specs.Outcome.{Outcome as MachineOutcome, Goes, Full, 
 use Rattle.script_machine.specs.Program.{Program}
 use Rattle.script_machine.specs.World.{World}
 use Rattle.script_machine.specs.Tasks.{Task}
-use Rattle.script_machine.specs.Output.{written, limit_line, BadLine, Limited}
+use Rattle.script_machine.specs.Output.{written, limit_line, BadLine}
 use Rattle.project_file.specs.declared.refusals.Refusal.{Refusal}
 use Rattle.player.specs.Told.{text_of_refusal}
-use Rattle.player.specs.Promise.{Loading, refused, accepted, counted, Ending, ran, is_whole, stop_of}
+use Rattle.player.specs.Promise.{Loading, refused, accepted, counted, Ending, ran, is_whole, ending_at, limit_save_line}
 use Rattle.player.specs.declared.status.Limit.{Limit as LimitMet}
 use Rattle.player.specs.declared.status.Limit.TheVariants as limit
 use Rattle.player.specs.declared.status.Which.{Which}
@@ -84,11 +84,18 @@ abbrev pub Stopped : Stop → Result (Unit {0}) Stop
 Stopped s = Err s
 
 -- the limit of a stop; want of memory is none
-abbrev pub limit_in : Stop → Option Stop
-limit_in stop.Stack = Some stop.Stack
-limit_in (stop.Text n) = Some (stop.Text n)
-limit_in (stop.Counter which) = Some (stop.Counter which)
+abbrev pub limit_in : Stop → Option LimitMet
+limit_in stop.Stack = Some limit.Stack
+limit_in (stop.Text n) = Some (limit.Text n)
+limit_in (stop.Counter which) = Some (limit.Counter which)
 limit_in stop.NoMemory = None
+
+-- the line of a limit
+abbrev pub line_at : LimitMet → List ℕ
+line_at limit.Stack = limit_line stop.Stack
+line_at (limit.Text n) = limit_line (stop.Text n)
+line_at (limit.Counter which) = limit_line (stop.Counter which)
+line_at (limit.Save n) = limit_save_line n
 
 -- what a write can end with
 abbrev pub IsWriteEnd : {A : Type 0} → Result A Status → Type 0
@@ -117,16 +124,17 @@ line_writes p l Full = limit_line stop.Stack ∷ []
 line_writes p l (TooLong n) = limit_line (stop.Text n) ∷ []
 line_writes p l (Spent which) = limit_line (stop.Counter which) ∷ []
 
--- the limit was met
-abbrev pub met : {A : Type 0} → LimitMet → MachineOutcome A
-met limit.Stack = Full
-met (limit.Text n) = TooLong n
-met (limit.Counter which) = Spent which
+-- the limit was met by a line
+abbrev pub HasMet : {A : Type 0} → MachineOutcome A → LimitMet → Type 0
+HasMet o limit.Stack = o ≡ Full
+HasMet o (limit.Text n) = o ≡ TooLong n
+HasMet o (limit.Counter which) = o ≡ Spent which
+HasMet o (limit.Save n) = ⊥
 
 -- what the play of a line answers, by the world after it
 abbrev pub LineEnds : {A T : Type 0} → MachineOutcome T → Result A Status → Type 0
 LineEnds o (Ok u) = Unit {0}
-LineEnds o (Err (Limit l)) = o ≡ met l
+LineEnds o (Err (Limit l)) = HasMet o l
 LineEnds o (Err WriteFault) = Unit {0}
 LineEnds o (Err NoMemory) = Unit {0}
 LineEnds o (Err Done) = ⊥
@@ -179,7 +187,7 @@ LineSteadily before now (Err (TooLarge file l)) = ⊥
 abbrev pub PlayedTo : Ending → Type 0 → Status → Type 0
 PlayedTo ending failed Done = is_whole ending ≡ true
 PlayedTo ending failed (BadScript r) = ending ≡ ran (BadLine r)
-PlayedTo ending failed (Limit l) = ending ≡ ran (Limited (stop_of l))
+PlayedTo ending failed (Limit l) = ending ≡ ending_at l
 PlayedTo ending failed WriteFault = failed
 PlayedTo ending failed NoMemory = Unit {0}
 PlayedTo ending failed Usage = ⊥

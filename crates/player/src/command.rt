@@ -9,11 +9,12 @@ use crate::whole_numbers::whole_up_to;
 /// What the command's words ask for, with the names of the files that they give.
 #[derive(Clone, Copy, Debug)]
 pub enum Command<'a> {
-    /// `play PROJECT SCRIPT SEED -`
+    /// `play PROJECT SCRIPT SEED SAVE`, with the word SAVE as it stands.
     Play {
         project: &'a str,
         script: &'a str,
         seed: u64,
+        save: &'a str,
     },
     /// `check PROJECT`
     Check {
@@ -45,16 +46,17 @@ fn playing<'a>(
     project: &'a str,
     script: &'a str,
     seed: &str,
-    save: &str,
+    save: &'a str,
 ) -> Option<Command<'a>>
     ensures { option_map command_view result ≡ play_by command.now project.now script.now seed.now (whole_up_to (2 ^ 64 - 1) seed.now) save.now }
 {
     let seed = whole_up_to(seed, u64::MAX)?;
-    if command == "play" && save == "-" {
+    if command == "play" {
         Some(Command::Play {
             project,
             script,
             seed,
+            save,
         })
     } else {
         None

@@ -1,7 +1,7 @@
 //! Fetching and loading the files that the words name.
 
 ghost use Rattle.std.specs.Prelude.{◌≡◌, ◌^◌, ◌<◌, length};
-ghost use Rattle.sv_channels.specs.Counts.{next_count, Rose, NoneFell};
+ghost use Rattle.sv_channels.specs.Counts.{next_count, Rose, NoneFell, NoneRose};
 ghost use Rattle.project_check.specs.Loaded.{program_of};
 ghost use Rattle.player.specs.Promise.{Loads, Checks};
 ghost use Rattle.player.specs.Stages.{Fetched, FetchedSteadily, Loaded, RefusedAs};
@@ -24,6 +24,7 @@ pub(crate) fn fetch<H: Shelf>(
     ensures answer { Fetched (H.held shelf.old) name.now which limit (Rose (H.fetch_faults shelf.old name.now) (H.fetch_faults shelf.new name.now)) (Rose (H.wants shelf.old) (H.wants shelf.new)) (λ v. v.items) result }
     ensures held { H.held shelf.new ≡ H.held shelf.old }
     ensures fetch_faults { NoneFell (H.fetch_faults shelf.old) (H.fetch_faults shelf.new) }
+    ensures put_faults { NoneRose (H.put_faults shelf.old) (H.put_faults shelf.new) }
     ensures steady { FetchedSteadily (H.fetch_faults shelf.old) (H.fetch_faults shelf.new) result }
     ensures calls { H.calls shelf.new ≡ next_count (H.calls shelf.old) }
 {

@@ -1,6 +1,7 @@
 //! The lines of a script, played.
 
-ghost use Rattle.std.specs.Prelude.{◌≡◌, ◌≤◌, ◌∷◌, [], length, false, option_map, IfOk, IfNone, IfSome, OnOk};
+ghost use Rattle.std.specs.Prelude.{◌≡◌, ◌≤◌, ◌∷◌, [], ◌++◌, length, false, option_map, IfOk, IfNone, IfSome, OnOk};
+ghost use Rattle.std.specs.Fmt.{decimal};
 ghost use Rattle.sv_channels.specs.Counts.{Rose};
 ghost use Rattle.script_words.specs.declared.stops.Stop.TheVariants as stop;
 ghost use Rattle.script_machine.specs.Line.{after};
@@ -11,7 +12,6 @@ ghost use Rattle.script_machine.specs.Output as machine;
 ghost use Rattle.script_machine.specs.Program.{Program};
 ghost use Rattle.script_machine.specs.ScriptText.{clock_after, lines_of, Good};
 ghost use Rattle.script_machine.specs.Tasks.{Task};
-ghost use Rattle.script_machine.specs.Words.{seen_words};
 ghost use Rattle.script_machine.specs.World.{World};
 ghost use Rattle.script_machine.specs.FrameText.{frame_text as machine_text};
 ghost use Rattle.project_check.specs.Loaded.{program_of};
@@ -20,15 +20,16 @@ ghost use Rattle.sequencer.specs.Runs.{world_of, IsRunOf};
 ghost use Rattle.stage_frame.specs.Writers.{records_of};
 ghost use Rattle.input_lines.specs.Frames.{is_frame};
 ghost use Rattle.player.specs.Limits.{script_limit};
-ghost use Rattle.player.specs.Promise.{ran, stop_of, output_of, Wrote, Writes};
-ghost use Rattle.player.specs.Stages.{line_writes, limit_in, Told, Stopped, IsWriteEnd, IsLimitEnd, IsLineEnd, LineEnds, LineWrote, LineWrites, LineSteadily, PlayedTo, PlayedSteadily};
+ghost use Rattle.player.specs.Promise.{ran, Wrote, Writes};
+ghost use Rattle.player.specs.Stages.{line_writes, line_at, limit_in, Told, Stopped, IsWriteEnd, IsLimitEnd, IsLineEnd, LineEnds, LineWrote, LineWrites, LineSteadily, PlayedTo, PlayedSteadily};
+ghost use Rattle.player.specs.Saving.{LeftAt, IfDone};
 
 use crate::status::{Limit, Status};
 use input_script::Script;
 use itoa::Buffer;
 use project_check::Project;
 use script_machine::{Budget, Line, LineRefusal};
-use script_words::{Counted, Rng, Stop};
+use script_words::{Rng, Stop};
 use sequencer::Run;
 use stage_frame::{FrameWriter, View};
 use std::alloc::{AllocError, Global};
@@ -51,7 +52,7 @@ fn write_text<K: Sink>(alloc: Global, text: &[u8], out: &mut K) -> Result<(), St
 
 // The limit of a stop; want of memory is none.
 fn limit_of(stop: Stop) -> Option<Limit>
-    ensures { option_map stop_of result ≡ limit_in stop }
+    ensures { result ≡ limit_in stop }
 {
     match stop {
         Stop::Stack => Some(Limit::Stack),
@@ -70,12 +71,12 @@ fn text_of(alloc: Global, bytes: &[u8]) -> Result<Vec<u8>, AllocError>
     Ok(text)
 }
 
-// The line of a text that is too long, by its length in bytes. The only error is want of memory.
-fn length_text(alloc: Global, length: u64) -> Result<Vec<u8>, AllocError>
-    ensures { IfOk result (λ text. text.items ≡ machine.limit_line (stop.Text length)) }
+// These bytes, a number and a line end. The only error is want of memory.
+fn length_text(alloc: Global, before: &[u8], length: u64) -> Result<Vec<u8>, AllocError>
+    ensures { IfOk result (λ text. text.items ≡ before.now ++ decimal length ++ 10 ∷ []) }
 {
     let mut text = Vec::new(alloc);
-    text.extend_from_slice(b"limit text ")?;
+    text.extend_from_slice(before)?;
     let mut buffer = Buffer::new();
     text.extend_from_slice(buffer.format(length).as_bytes())?;
     text.push(b'\n')?;
@@ -84,22 +85,23 @@ fn length_text(alloc: Global, length: u64) -> Result<Vec<u8>, AllocError>
 
 // The line of a limit. The only error is want of memory.
 fn limit_text(alloc: Global, limit: Limit) -> Result<Vec<u8>, AllocError>
-    ensures { IfOk result (λ text. text.items ≡ machine.limit_line (stop_of limit)) }
+    ensures { IfOk result (λ text. text.items ≡ line_at limit) }
 {
     match limit {
         Limit::Stack => text_of(alloc, b"limit stack 65536\n"),
-        Limit::Text { length } => length_text(alloc, length),
+        Limit::Text { length } => length_text(alloc, b"limit text ", length),
         Limit::Counter { .. } => text_of(alloc, b"limit counter\n"),
+        Limit::Save { length } => length_text(alloc, b"limit save ", length),
     }
 }
 
 // Writes the line of a limit.
-fn tell_limit<K: Sink>(alloc: Global, limit: Limit, out: &mut K) -> Status
-    ensures wrote { LineWrote (K.written out.old) (K.written out.new) (machine.limit_line (stop_of limit) ∷ []) (Rose (K.faults out.old) (K.faults out.new)) (Told result) }
+pub(crate) fn tell_limit<K: Sink>(alloc: Global, limit: Limit, out: &mut K) -> Status
+    ensures wrote { LineWrote (K.written out.old) (K.written out.new) (line_at limit ∷ []) (Rose (K.faults out.old) (K.faults out.new)) (Told result) }
     ensures ends { IsLimitEnd limit result }
     ensures faults { K.faults out.old ≤ K.faults out.new }
     ensures steady { LineSteadily (K.faults out.old) (K.faults out.new) (Told result) }
-    ensures writes { LineWrites (K.calls out.old) (K.calls out.new) (machine.limit_line (stop_of limit) ∷ []) (Told result) }
+    ensures writes { LineWrites (K.calls out.old) (K.calls out.new) (line_at limit ∷ []) (Told result) }
 {
     let Ok(text) = limit_text(alloc, limit) else {
         return Status::NoMemory;
@@ -261,10 +263,12 @@ fn play_from<R: Rng + Drop, K: Sink>(
     requires fits { IsRunOf project.now run.old }
     requires few { length script.now ≤ script_limit }
     ensures cause { PlayedTo (ran (machine.played (program_of project.now) 1 run.old.state.devices.clock (world_of R.stream project.now run.old) (lines_of script.now)).ending) (Rose (K.faults out.old) (K.faults out.new)) result }
+    ensures last { LeftAt (machine.played (program_of project.now) 1 run.old.state.devices.clock (world_of R.stream project.now run.old) (lines_of script.now)) (world_of R.stream project.now run.new) result }
+    ensures fits { IfDone (IsRunOf project.now run.new) result }
     ensures bytes { Wrote (K.written out.old) (K.written out.new) (machine.played (program_of project.now) 1 run.old.state.devices.clock (world_of R.stream project.now run.old) (lines_of script.now)).writes result }
     ensures faults { K.faults out.old ≤ K.faults out.new }
     ensures steady { PlayedSteadily (K.faults out.old) (K.faults out.new) result }
-    ensures writes { Writes (K.calls out.old) (K.calls out.new) (machine.played (program_of project.now) 1 run.old.state.devices.clock (world_of R.stream project.now run.old) (lines_of script.now)).writes result }
+    ensures writes { Writes (K.calls out.old) (K.calls out.new) ⊥ (machine.played (program_of project.now) 1 run.old.state.devices.clock (world_of R.stream project.now run.old) (lines_of script.now)).writes result }
 {
     let mut reader = Script::new(alloc, script, run.clock());
     'lines: loop {
@@ -282,26 +286,26 @@ fn play_from<R: Rng + Drop, K: Sink>(
     }
 }
 
-// Plays the lines of a script, from the first world on.
+// Plays the lines of a script on a run.
 pub(crate) fn play_lines<R: Rng + Drop, K: Sink>(
     alloc: Global,
     project: &Project,
-    words: Counted<R>,
+    run: &mut Run<R>,
     script: &[u8],
     out: &mut K,
 ) -> Status
-    requires { length script.now ≤ script_limit }
-    ensures cause { PlayedTo (ran (output_of (program_of project.now) (seen_words R.stream words) script.now).ending) (Rose (K.faults out.old) (K.faults out.new)) result }
-    ensures bytes { Wrote (K.written out.old) (K.written out.new) (output_of (program_of project.now) (seen_words R.stream words) script.now).writes result }
+    requires fits { IsRunOf project.now run.old }
+    requires few { length script.now ≤ script_limit }
+    ensures cause { PlayedTo (ran (machine.played (program_of project.now) 1 run.old.state.devices.clock (world_of R.stream project.now run.old) (lines_of script.now)).ending) (Rose (K.faults out.old) (K.faults out.new)) result }
+    ensures last { LeftAt (machine.played (program_of project.now) 1 run.old.state.devices.clock (world_of R.stream project.now run.old) (lines_of script.now)) (world_of R.stream project.now run.new) result }
+    ensures fits { IfDone (IsRunOf project.now run.new) result }
+    ensures bytes { Wrote (K.written out.old) (K.written out.new) (machine.played (program_of project.now) 1 run.old.state.devices.clock (world_of R.stream project.now run.old) (lines_of script.now)).writes result }
     ensures faults { K.faults out.old ≤ K.faults out.new }
     ensures steady { PlayedSteadily (K.faults out.old) (K.faults out.new) result }
-    ensures writes { Writes (K.calls out.old) (K.calls out.new) (output_of (program_of project.now) (seen_words R.stream words) script.now).writes result }
+    ensures writes { Writes (K.calls out.old) (K.calls out.new) ⊥ (machine.played (program_of project.now) 1 run.old.state.devices.clock (world_of R.stream project.now run.old) (lines_of script.now)).writes result }
 {
-    let Ok(mut run) = Run::open(alloc, project, words) else {
-        return Status::NoMemory;
-    };
     let Ok(writer) = FrameWriter::new(alloc, project.records()) else {
         return Status::NoMemory;
     };
-    play_from(alloc, project, &mut run, &writer, script, out)
+    play_from(alloc, project, run, &writer, script, out)
 }

@@ -5,6 +5,7 @@ mod command;
 mod counts;
 mod fetching;
 mod lines;
+mod saving;
 mod status;
 mod top;
 mod whole_numbers;

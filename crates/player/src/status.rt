@@ -26,24 +26,27 @@ pub enum Limit {
     Text { length: u64 },
     /// A counter has no number left.
     Counter { which: CounterKind },
+    /// The text of the saved run would be longer than 128 MiB: its length in bytes.
+    Save { length: u64 },
 }
 
 /// How a call of `play` ends.
 #[derive(Debug, Drop)]
 pub enum Status {
-    /// All was done: the script was read to its last line, or the project was accepted and this was written.
+    /// All was done: the script was read to its last line, and the run was saved where a name to save it under was given; or
+    /// the project was accepted and this was written.
     Done,
     /// The words are none of the forms.
     Usage,
     /// A file that the words name could not be read.
     ReadFault,
-    /// A piece of the output could not be written.
+    /// A piece of the output could not be written, or the saved run could not be put.
     WriteFault,
     /// The project is refused. Want of memory never stands here.
     BadProject(Refusal),
     /// A line of the script is refused. Want of memory never stands here.
     BadScript(LineRefusal),
-    /// The run reached a limit, whose line was written in place of a frame's text.
+    /// The run reached a limit, whose line was written in place of a frame's text, or of saving.
     Limit(Limit),
     /// A file is longer than its limit, in bytes.
     TooLarge { which: Which, limit: u64 },

@@ -116,6 +116,31 @@ fn unwritten(alloc: Global, words: &str, failing: u64, kept: u64) -> Result<Answ
     told(alloc, &status, out.written())
 }
 
+// The saved run of the base file with no blocks, after TWO_FRAMES with the seed 7, as its format says.
+const SAVED: &str =
+    "{\"answer\":\"\",\"clock\":0,\"drawn\":0,\"frame\":2,\"instances\":[{\"bubble\":[\"say\",\"\",0],\"costume\":0,\"direction\":90000000,\"edges\":[],\"effects\":[0,0,0,0,0,0,0],\"lists\":[[]],\"number\":0,\"of\":0,\"size\":100000000,\"style\":0,\"variables\":[[0]],\"visible\":true,\"x\":0,\"y\":0},{\"bubble\":[\"say\",\"\",0],\"costume\":0,\"direction\":90000000,\"edges\":[],\"effects\":[0,0,0,0,0,0,0],\"lists\":[],\"number\":1,\"of\":1,\"size\":100000000,\"style\":0,\"variables\":[],\"visible\":true,\"x\":0,\"y\":0}],\"keys\":[],\"made\":[],\"monitors\":[true],\"mouse\":[0,0,false],\"next\":[1,2,1],\"project\":\"bc2740f938d9fa5d256328f8f77408ce17ec7fdd4ee29446f02128f83ec259cd\",\"questions\":[],\"seed\":7,\"threads\":[],\"timer\":0,\"timers\":[],\"turbo\":false,\"version\":1}";
+
+// What a call over the base file with no blocks answers, and what it leaves under the name `kept`; one call of the shelf
+// fails.
+fn saved(
+    alloc: Global,
+    words: &str,
+    script: &[u8],
+    failing: u64,
+) -> Result<(Answer, Option<Vec<u8>>), AllocError> {
+    let mut calls = Numbers::new(alloc);
+    calls.push(failing)?;
+    let base = project(alloc, "{}", "{}")?;
+    let mut shelf = shelf(alloc, base.as_bytes(), script, calls)?;
+    let mut out = SteadySink::new(alloc);
+    let status = play(alloc, &words_of(alloc, words)?, &mut shelf, &mut out);
+    let kept = match shelf.bytes("kept") {
+        Some(bytes) => Some(bytes.to_vec(alloc)?),
+        None => None,
+    };
+    Ok((told(alloc, &status, out.written())?, kept))
+}
+
 // The answer has this text and number, and so much was written.
 fn is_told(rt: &impl Abort, answer: &Answer, text: &str, number: u8, written: &[u8]) {
     assert_eq!(rt; answer.text.as_str(), text);
@@ -167,6 +192,32 @@ fn one_frame(rt: HostRuntime) -> Result<(), Fail> {
     ];
     for (stage, cat, value) in rows {
         plays_to(&rt, rt.alloc(), stage, cat, value)?;
+    }
+    Ok(())
+}
+
+#[test]
+fn a_run_is_saved(rt: HostRuntime) -> Result<(), Fail> {
+    let (answer, kept) = saved(rt.alloc(), "play p s 7 kept", TWO_FRAMES, 9)?;
+    assert_eq!(rt; answer.text.as_str(), "Done");
+    assert_eq!(rt; kept.as_deref(), Some(SAVED.as_bytes()));
+    Ok(())
+}
+
+#[test]
+fn runs_that_are_not_saved(rt: HostRuntime) -> Result<(), Fail> {
+    let rows: [(&str, &[u8], u64, &str, u8); 4] = [
+        ("play p s 7 -", TWO_FRAMES, 9, "Done", 0),
+        ("play p s 7 kept", b"flag\njump\n", 9, "BadScript 2 2", 5),
+        // The third call of the shelf is the put.
+        ("play p s 7 kept", TWO_FRAMES, 2, "WriteFault", 3),
+        ("play p s 7 kept", TWO_FRAMES, 1, "ReadFault", 2),
+    ];
+    for (words, script, failing, text, number) in rows {
+        let (answer, kept) = saved(rt.alloc(), words, script, failing)?;
+        assert_eq!(rt; answer.text.as_str(), text);
+        assert_eq!(rt; answer.number, number);
+        assert_eq!(rt; kept.is_none(), true);
     }
     Ok(())
 }
@@ -318,14 +369,13 @@ fn lines_that_are_refused(rt: HostRuntime) -> Result<(), Fail> {
     Ok(())
 }
 
-static NO_FORMS: [&str; 17] = [
+static NO_FORMS: [&str; 16] = [
     "",
     "play",
     "play p s 1",
     "play p s 1 - -",
     "Play p s 1 -",
     "resume p s 1 -",
-    "play p s 1 save",
     "play p s 01 -",
     "play p s -1 -",
     "play p s +1 -",

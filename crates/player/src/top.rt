@@ -2,16 +2,16 @@
 
 ghost use Rattle.std.specs.Prelude.{◌≡◌, ◌≢◌, ◌⊎◌, ◌↔◌, ◌≤◌, ◌<◌, ◌^◌, map, string_bytes, None};
 ghost use Rattle.sv_channels.specs.Counts.{Rose};
-ghost use Rattle.player.specs.Command.{play as play_of, check as check_of, command_of};
-ghost use Rattle.player.specs.Promise.{FetchFailed, FaultCause, AnswerCause, HidesNothing, Tells, Wrote, IsSilent, Fetches, FetchesFor, Writes, Promised, Asked, project_name, told, told_counts};
+ghost use Rattle.player.specs.Command.{play as play_of, check as check_of, command_of, name_to_save};
+ghost use Rattle.player.specs.Promise.{FetchFailed, PutFailed, FaultCause, AnswerCause, HidesNothing, Tells, Wrote, IsSilent, Shelved, IsUnshelved, UnshelvedFor, Calls, CallsFor, Writes, Promised, Asked, name_of_save, puts_of, project_name, told, told_counts};
 ghost use Rattle.player.specs.Stages.{PlayedTo, PlayedSteadily};
 
 use crate::command::{Command, command_of};
 use crate::counts::{Counts, accepted_line};
 use crate::fetching::{count, fetch, load_project};
-use crate::lines::play_lines;
+use crate::saving::{Origin, play_first};
 use crate::status::{Status, Which};
-use script_words::pcg;
+use sha2::{Digest, Sha256};
 use std::alloc::Global;
 use sv_channels::{Shelf, Sink, SinkError};
 
@@ -19,38 +19,42 @@ const PROJECT_LIMIT: u64 = 33_554_432;
 
 const SCRIPT_LIMIT: u64 = 16_777_216;
 
-// Fetches the two files, loads the project and plays the script.
+// Fetches the two files, loads the project, plays the script and saves the run.
 fn run<H: Shelf, K: Sink>(
     alloc: Global,
     project: &str,
     script: &str,
     seed: u64,
+    save: &str,
     shelf: &mut H,
     out: &mut K,
 ) -> Status
-    ensures fault { FaultCause (FetchFailed (H.fetch_faults shelf.old) (H.fetch_faults shelf.new) (play_of (record { project = project.now; script = script.now; seed = seed }))) (Rose (K.faults out.old) (K.faults out.new)) result }
-    ensures exact { Promised (H.held shelf.old) (play_of (record { project = project.now; script = script.now; seed = seed })) (λ o. AnswerCause (Rose (H.fetch_faults shelf.old project.now) (H.fetch_faults shelf.new project.now)) (Rose (H.wants shelf.old) (H.wants shelf.new)) o.ending result) }
-    ensures bytes { Promised (H.held shelf.old) (play_of (record { project = project.now; script = script.now; seed = seed })) (λ o. Wrote (K.written out.old) (K.written out.new) o.texts result) }
+    ensures fault { FaultCause (FetchFailed (H.fetch_faults shelf.old) (H.fetch_faults shelf.new) (play_of (record { project = project.now; script = script.now; seed = seed; save = name_to_save save.now }))) (Rose (K.faults out.old) (K.faults out.new) ⊎ PutFailed (H.put_faults shelf.old) (H.put_faults shelf.new) (name_to_save save.now)) result }
+    ensures exact { Promised (H.held shelf.old) (play_of (record { project = project.now; script = script.now; seed = seed; save = name_to_save save.now })) (λ o. AnswerCause (Rose (H.fetch_faults shelf.old project.now) (H.fetch_faults shelf.new project.now)) (Rose (H.wants shelf.old) (H.wants shelf.new)) o.ending result) }
+    ensures bytes { Promised (H.held shelf.old) (play_of (record { project = project.now; script = script.now; seed = seed; save = name_to_save save.now })) (λ o. Wrote (K.written out.old) (K.written out.new) o.texts result) }
     ensures silent { IsSilent (K.written out.old) (K.written out.new) result }
-    ensures held { H.held shelf.new ≡ H.held shelf.old }
+    ensures shelved { Promised (H.held shelf.old) (play_of (record { project = project.now; script = script.now; seed = seed; save = name_to_save save.now })) (λ o. Shelved (H.held shelf.old) (H.held shelf.new) (PutFailed (H.put_faults shelf.old) (H.put_faults shelf.new) (name_to_save save.now)) (name_to_save save.now) o result) }
+    ensures held { IsUnshelved (H.held shelf.old) (H.held shelf.new) (name_to_save save.now) result }
     ensures no_usage { result ≢ Status.Usage }
-    ensures honest { HidesNothing (H.fetch_faults shelf.old) (H.fetch_faults shelf.new) (K.faults out.old) (K.faults out.new) result }
-    ensures fetches { Fetches (H.calls shelf.old) (H.calls shelf.new) 2 result }
-    ensures writes { Promised (H.held shelf.old) (play_of (record { project = project.now; script = script.now; seed = seed })) (λ o. Writes (K.calls out.old) (K.calls out.new) o.texts result) }
+    ensures honest { HidesNothing (H.fetch_faults shelf.old) (H.fetch_faults shelf.new) (H.put_faults shelf.old) (H.put_faults shelf.new) (K.faults out.old) (K.faults out.new) result }
+    ensures calls { Calls (H.calls shelf.old) (H.calls shelf.new) 2 (puts_of (name_to_save save.now)) result }
+    ensures writes { Promised (H.held shelf.old) (play_of (record { project = project.now; script = script.now; seed = seed; save = name_to_save save.now })) (λ o. Writes (K.calls out.old) (K.calls out.new) (PutFailed (H.put_faults shelf.old) (H.put_faults shelf.new) (name_to_save save.now)) o.texts result) }
 {
-    let project = match fetch(alloc, shelf, project, Which::Project, PROJECT_LIMIT) {
+    let file = match fetch(alloc, shelf, project, Which::Project, PROJECT_LIMIT) {
         Ok(bytes) => bytes,
         Err(status) => return status,
     };
-    let project = match load_project(alloc, &project) {
+    let project = match load_project(alloc, &file) {
         Ok(project) => project,
         Err(status) => return status,
     };
+    let digest = Sha256::digest(&file);
+    let origin = Origin { digest, seed };
     let script = match fetch(alloc, shelf, script, Which::Script, SCRIPT_LIMIT) {
         Ok(bytes) => bytes,
         Err(status) => return status,
     };
-    play_lines(alloc, &project, pcg(seed, 0), &script, out)
+    play_first(alloc, &project, origin, save, &script, shelf, out)
 }
 
 // Writes the line of an accepted project.
@@ -59,7 +63,7 @@ fn tell_counts<K: Sink>(alloc: Global, counts: Counts, out: &mut K) -> Status
     ensures bytes { Wrote (K.written out.old) (K.written out.new) (told_counts counts).texts result }
     ensures faults { K.faults out.old ≤ K.faults out.new }
     ensures steady { PlayedSteadily (K.faults out.old) (K.faults out.new) result }
-    ensures writes { Writes (K.calls out.old) (K.calls out.new) (told_counts counts).texts result }
+    ensures writes { Writes (K.calls out.old) (K.calls out.new) ⊥ (told_counts counts).texts result }
 {
     let Ok(line) = accepted_line(alloc, counts) else {
         return Status::NoMemory;
@@ -79,9 +83,9 @@ fn check<H: Shelf, K: Sink>(alloc: Global, project: &str, shelf: &mut H, out: &m
     ensures silent { IsSilent (K.written out.old) (K.written out.new) result }
     ensures held { H.held shelf.new ≡ H.held shelf.old }
     ensures no_usage { result ≢ Status.Usage }
-    ensures honest { HidesNothing (H.fetch_faults shelf.old) (H.fetch_faults shelf.new) (K.faults out.old) (K.faults out.new) result }
-    ensures fetches { Fetches (H.calls shelf.old) (H.calls shelf.new) 1 result }
-    ensures writes { Promised (H.held shelf.old) (check_of project.now) (λ o. Writes (K.calls out.old) (K.calls out.new) o.texts result) }
+    ensures honest { HidesNothing (H.fetch_faults shelf.old) (H.fetch_faults shelf.new) (H.put_faults shelf.old) (H.put_faults shelf.new) (K.faults out.old) (K.faults out.new) result }
+    ensures calls { Calls (H.calls shelf.old) (H.calls shelf.new) 1 0 result }
+    ensures writes { Promised (H.held shelf.old) (check_of project.now) (λ o. Writes (K.calls out.old) (K.calls out.new) ⊥ o.texts result) }
 {
     let bytes = match fetch(alloc, shelf, project, Which::Project, PROJECT_LIMIT) {
         Ok(bytes) => bytes,
@@ -94,13 +98,15 @@ fn check<H: Shelf, K: Sink>(alloc: Global, project: &str, shelf: &mut H, out: &m
     tell_counts(alloc, counts, out)
 }
 
-/// Plays a project, `play PROJECT SCRIPT SEED -`, or checks one, `check PROJECT`: the command's words without the
+/// Plays a project, `play PROJECT SCRIPT SEED SAVE`, or checks one, `check PROJECT`: the command's words without the
 /// program's name.
 ///
 /// To play, the project and the script are fetched from the shelf, and each frame line of the script writes one frame
-/// text by one write; a limit that a line reaches writes its own line and ends the run. To check, the project is
-/// fetched, and where it is accepted, the line `accepted T B` with its numbers of targets and blocks is written by one
-/// write. specs/Promise.antt says what the clauses mean. After a fault no further call is made on the shelf or the sink.
+/// text by one write; a limit that a line reaches writes its own line and ends the run. A run that was played to the end of
+/// its script is saved: the text of the saved run (docs/formats.md, section 5) is put under SAVE, unless that is `-`; one
+/// that is longer than 128 MiB writes the line of this limit instead. To check, the project is fetched, and where it is
+/// accepted, the line `accepted T B` with its numbers of targets and blocks is written by one write. specs/Promise.antt says
+/// what the clauses mean. After a fault no further call is made on the shelf or the sink.
 pub fn play<H: Shelf, K: Sink>(
     alloc: Global,
     words: &[String],
@@ -111,7 +117,7 @@ pub fn play<H: Shelf, K: Sink>(
     ensures usage { (result ≡ Status.Usage) ↔ (command_of (map string_bytes words.now) ≡ None) }
 
     // A fault only where its count rose.
-    ensures cause { Asked (map string_bytes words.now) (λ command. FaultCause (FetchFailed (H.fetch_faults shelf.old) (H.fetch_faults shelf.new) command) (Rose (K.faults out.old) (K.faults out.new)) result) }
+    ensures cause { Asked (map string_bytes words.now) (λ command. FaultCause (FetchFailed (H.fetch_faults shelf.old) (H.fetch_faults shelf.new) command) (Rose (K.faults out.old) (K.faults out.new) ⊎ PutFailed (H.put_faults shelf.old) (H.put_faults shelf.new) (name_of_save command)) result) }
 
     // Every other status but want of memory exactly where the outcome ends so; a read fault and want of memory no later
     // in the order of work than they may come.
@@ -121,19 +127,23 @@ pub fn play<H: Shelf, K: Sink>(
     // Where no count rose, the answer tells the outcome's ending, or memory ran out.
     ensures complete { Asked (map string_bytes words.now) (λ command. Promised (H.held shelf.old) command (λ o.
         ¬ FetchFailed (H.fetch_faults shelf.old) (H.fetch_faults shelf.new) command → ¬ Rose (K.faults out.old) (K.faults out.new)
+        → ¬ PutFailed (H.put_faults shelf.old) (H.put_faults shelf.new) (name_of_save command)
         → Tells result o.ending ⊎ (result ≡ Status.NoMemory))) }
 
     // No failure is told as another status.
-    ensures honest { HidesNothing (H.fetch_faults shelf.old) (H.fetch_faults shelf.new) (K.faults out.old) (K.faults out.new) result }
+    ensures honest { HidesNothing (H.fetch_faults shelf.old) (H.fetch_faults shelf.new) (H.put_faults shelf.old) (H.put_faults shelf.new) (K.faults out.old) (K.faults out.new) result }
 
     // What was written, and by how many writes.
     ensures bytes { Asked (map string_bytes words.now) (λ command. Promised (H.held shelf.old) command (λ o. Wrote (K.written out.old) (K.written out.new) o.texts result)) }
-    ensures writes { Asked (map string_bytes words.now) (λ command. Promised (H.held shelf.old) command (λ o. Writes (K.calls out.old) (K.calls out.new) o.texts result)) }
+    ensures writes { Asked (map string_bytes words.now) (λ command. Promised (H.held shelf.old) command (λ o.
+        Writes (K.calls out.old) (K.calls out.new) (PutFailed (H.put_faults shelf.old) (H.put_faults shelf.new) (name_of_save command)) o.texts result)) }
     ensures silent { IsSilent (K.written out.old) (K.written out.new) result }
 
-    // The shelf holds what it held, and each file was fetched once at most.
-    ensures held { H.held shelf.new ≡ H.held shelf.old }
-    ensures fetches { FetchesFor (H.calls shelf.old) (H.calls shelf.new) (command_of (map string_bytes words.now)) result }
+    // The shelf holds what it held, but for the saved run; each file was fetched once at most, and put once at most.
+    ensures shelved { Asked (map string_bytes words.now) (λ command. Promised (H.held shelf.old) command (λ o.
+        Shelved (H.held shelf.old) (H.held shelf.new) (PutFailed (H.put_faults shelf.old) (H.put_faults shelf.new) (name_of_save command)) (name_of_save command) o result)) }
+    ensures held { UnshelvedFor (H.held shelf.old) (H.held shelf.new) (command_of (map string_bytes words.now)) result }
+    ensures calls { CallsFor (H.calls shelf.old) (H.calls shelf.new) (command_of (map string_bytes words.now)) result }
 {
     match command_of(words) {
         None => Status::Usage,
@@ -142,8 +152,9 @@ pub fn play<H: Shelf, K: Sink>(
                 project,
                 script,
                 seed,
+                save,
             },
-        ) => run(alloc, project, script, seed, shelf, out),
+        ) => run(alloc, project, script, seed, save, shelf, out),
         Some(Command::Check { project }) => check(alloc, project, shelf, out),
     }
 }

@@ -1,10 +1,9 @@
 use Rattle.std.proofs.Common.{sym, ◌∙◌, ap}
 use Rattle.std.proofs.lemmas.Result.{IfOk-weaker}
-use Rattle.player.specs.Promise.{stop_of}
-use Rattle.script_machine.specs.Output.{limit_line}
+use Rattle.player.specs.Stages.{line_at}
 use Rattle.player.proofs.Turns.{stack_line}
 use Rattle.player.proofs.lines.limit_text.Goals as goal
 
 pub returns-in-Stack : goal.returns-in-Stack
 returns-in-Stack c =
-    IfOk-weaker c.text_of.result _ _ (λ text h. h ∙ sym stack_line ∙ ap (λ l. limit_line (stop_of l)) (sym c.in-Stack.is)) c.text_of.ensures
+    IfOk-weaker c.text_of.result _ _ (λ text h. h ∙ sym stack_line ∙ ap line_at (sym c.in-Stack.is)) c.text_of.ensures

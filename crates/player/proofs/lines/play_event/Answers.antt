@@ -1,4 +1,3 @@
-use Rattle.script_machine.specs.declared.lines.Line.TheVariants as line_of
 use Rattle.project_check.specs.Loaded.{program_of}
 use Rattle.player.proofs.lines.play_event.Goals as goal
 

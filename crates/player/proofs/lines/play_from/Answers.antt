@@ -1,22 +1,16 @@
-use Rattle.std.proofs.Common.{◌≡◌, ◌+◌, Option, Some, Ok, Err, refl, sym, ap, ◌∙◌, subst}
-use Rattle.std.specs.Prelude.{drop, option_map, length}
-use Rattle.sv_channels.specs.Counts.{Rose}
+use Rattle.std.proofs.Common.{◌≡◌, ◌+◌, Option, sym, ap, ◌∙◌, subst}
+use Rattle.std.specs.Prelude.{drop, option_map}
 use Rattle.script_machine.specs.declared.lines.Line.{Line}
-use Rattle.script_machine.specs.declared.lines.LineRefusal.{LineRefusal}
-use Rattle.script_machine.specs.declared.lines.LineRefusal.TheVariants as line_refusal
 use Rattle.script_machine.specs.Line.{after}
-use Rattle.script_machine.specs.Outcome.{Outcome, Goes}
-use Rattle.script_machine.specs.Output.{Output, BadLine, in_front, played}
+use Rattle.script_machine.specs.Outcome.{Goes}
+use Rattle.script_machine.specs.Output.{Output, in_front, played}
 use Rattle.script_machine.specs.ScriptText.{Good, lines_of, clock_after}
-use Rattle.script_machine.specs.Tasks.{Task}
-use Rattle.script_machine.specs.World.{World}
 use Rattle.project_check.specs.Loaded.{program_of}
 use Rattle.input_script.specs.Reader.{Reader, next_reading, reader_after, behind}
 use Rattle.sequencer.specs.Runs.{world_of}
-use Rattle.player.specs.Promise.{ran, is_whole}
-use Rattle.player.specs.Stages.{line_writes, PlayedTo}
-use Rattle.player.proofs.Outputs.{IsPartOf, part_none, part_more, err_wrote, err_writes, err_cause, refused_cause, refused_wrote, refused_writes, ended_wrote, ended_writes}
-use Rattle.player.proofs.Turns.{follows, turn_good, turn_none, turn_refused, limit_ends, line_last}
+use Rattle.player.specs.Stages.{line_writes}
+use Rattle.player.proofs.Outputs.{part_more, err_wrote, err_writes, refused_wrote}
+use Rattle.player.proofs.Turns.{follows, turn_good, turn_refused, line_last}
 use Rattle.player.proofs.lines.play_from.Goals as goal
 
 pub returns-in-Err-clause-bytes : goal.returns-in-Err-clause-bytes

@@ -3,7 +3,7 @@ use Rattle.sv_channels.specs.Counts.{Rose}
 use Rattle.player.specs.Limits.{project_limit}
 use Rattle.player.specs.Promise.{Outcome, Checks, told, AnswerCause, Wrote, Writes, told_counts}
 use Rattle.player.specs.declared.counts.Counts.{Counts}
-use Rattle.player.proofs.Calls.{fetched_file, check_reading, at_load, at_accepted, everywhere, refused_cause, played_cause, told_fetches}
+use Rattle.player.proofs.Calls.{fetched_file, check_reading, at_load, at_accepted, everywhere, refused_cause, played_cause, told_calls}
 use Rattle.player.proofs.top.check.Goals as goal
 
 -- the project is refused
@@ -14,7 +14,7 @@ returns-in-Err-count-clause-exact g c =
     let project = fetched_file held held name project_limit c.in-Ok.bytes.items c.deref.result.now refl c.deref.ensures.value c.in-Ok.ensures.answer in
     let failed = Rose (g.H.Shelf.fetch_faults c.args.shelf.now name) (g.H.Shelf.fetch_faults c.fetch.new.shelf name) in
     let wanted = Rose (g.H.Shelf.wants c.args.shelf.now) (g.H.Shelf.wants c.fetch.new.shelf) in
-    at_load Checks (λ files. told_counts) (λ (o : Outcome). AnswerCause failed wanted o.ending c.in-Err-count.status) held name c.deref.result.now project
+    at_load Checks (λ files bytes. told_counts) (λ (o : Outcome). AnswerCause failed wanted o.ending c.in-Err-count.status) held name c.deref.result.now project
     (λ files loading b. refused_cause (Checks c.deref.result.now) (λ (n : Counts). n) (check_reading c.deref.result.now) failed wanted c.in-Err-count.status told_counts (λ n. tt) c.in-Err-count.ensures loading b)
 
 -- the counts are told
@@ -27,7 +27,7 @@ returns-clause-exact g c =
     let failed = Rose (g.H.Shelf.fetch_faults c.args.shelf.now name) (g.H.Shelf.fetch_faults c.fetch.new.shelf name) in
     let wanted = Rose (g.H.Shelf.wants c.args.shelf.now) (g.H.Shelf.wants c.fetch.new.shelf) in
     let P : Outcome → Type 0 = λ o. AnswerCause failed wanted o.ending c.tell_counts.result in
-    at_accepted Checks (λ files. told_counts) P held name c.deref.result.now c.in-Ok-count.counts (check_reading c.deref.result.now) project c.in-Ok-count.ensures
+    at_accepted Checks (λ files bytes. told_counts) P held name c.deref.result.now c.in-Ok-count.counts (check_reading c.deref.result.now) project c.in-Ok-count.ensures
     (everywhere held (played_cause told failed wanted _ c.tell_counts.result tt c.tell_counts.ensures.cause))
 
 pub returns-clause-bytes : goal.returns-clause-bytes
@@ -36,7 +36,7 @@ returns-clause-bytes g c =
     let name = c.args.project.now in
     let project = fetched_file held held name project_limit c.in-Ok.bytes.items c.deref.result.now refl c.deref.ensures.value c.in-Ok.ensures.answer in
     let P : Outcome → Type 0 = λ o. Wrote (g.K.Sink.written c.args.out.now) (g.K.Sink.written c.tell_counts.new.out) o.texts c.tell_counts.result in
-    at_accepted Checks (λ files. told_counts) P held name c.deref.result.now c.in-Ok-count.counts (check_reading c.deref.result.now) project c.in-Ok-count.ensures
+    at_accepted Checks (λ files bytes. told_counts) P held name c.deref.result.now c.in-Ok-count.counts (check_reading c.deref.result.now) project c.in-Ok-count.ensures
     (everywhere held c.tell_counts.ensures.bytes)
 
 pub returns-clause-writes : goal.returns-clause-writes
@@ -44,9 +44,9 @@ returns-clause-writes g c =
     let held = g.H.Shelf.held c.args.shelf.now in
     let name = c.args.project.now in
     let project = fetched_file held held name project_limit c.in-Ok.bytes.items c.deref.result.now refl c.deref.ensures.value c.in-Ok.ensures.answer in
-    let P : Outcome → Type 0 = λ o. Writes (g.K.Sink.calls c.args.out.now) (g.K.Sink.calls c.tell_counts.new.out) o.texts c.tell_counts.result in
-    at_accepted Checks (λ files. told_counts) P held name c.deref.result.now c.in-Ok-count.counts (check_reading c.deref.result.now) project c.in-Ok-count.ensures
+    let P : Outcome → Type 0 = λ o. Writes (g.K.Sink.calls c.args.out.now) (g.K.Sink.calls c.tell_counts.new.out) ⊥ o.texts c.tell_counts.result in
+    at_accepted Checks (λ files bytes. told_counts) P held name c.deref.result.now c.in-Ok-count.counts (check_reading c.deref.result.now) project c.in-Ok-count.ensures
     (everywhere held c.tell_counts.ensures.writes)
 
-pub returns-clause-fetches : goal.returns-clause-fetches
-returns-clause-fetches g c = (1, told_fetches told _ c.tell_counts.result c.tell_counts.ensures.cause, c.in-Ok.ensures.calls)
+pub returns-clause-calls : goal.returns-clause-calls
+returns-clause-calls g c = (1, told_calls told _ c.tell_counts.result c.tell_counts.ensures.cause, c.in-Ok.ensures.calls)
