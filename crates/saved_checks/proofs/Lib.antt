@@ -1,0 +1,12 @@
+pub mod Fresh
+pub mod OneKey
+pub mod Characters
+pub mod Lives
+pub mod Counts
+pub mod HatBlocks
+pub mod HatsOfTargets
+pub mod Joined
+pub mod StoresTold
+pub mod TextsTold
+pub mod ThreadsTold
+pub mod Whole

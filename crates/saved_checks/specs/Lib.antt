@@ -1,0 +1,4 @@
+pub mod Live
+pub mod Originals
+pub mod Levels
+pub mod Groups

@@ -1,0 +1,19 @@
+//! A plain value and its compact text, as serde_json reads and writes them.
+
+use crate::{a_compact_text_is_utf8, a_compact_text_reads_back};
+use serde_json::Value;
+use std::test::Fail;
+
+// The least and the greatest whole numbers, names in their order, an escape, and a character of two bytes.
+const TEXT: &str =
+    r#"{"":[0,-9223372036854775808,18446744073709551615],"a":{"b":"é\n\u0001"},"ab":[null,true,[]]}"#;
+
+#[test]
+fn a_plain_value_is_written_as_it_was_read(rt: HostRuntime) -> Result<(), Fail> {
+    a_compact_text_reads_back();
+    a_compact_text_is_utf8();
+    let value = Value::from_str(rt.alloc(), TEXT)?;
+    let text = value.to_string(rt.alloc())?;
+    assert_eq!(rt; text.as_str(), TEXT);
+    Ok(())
+}

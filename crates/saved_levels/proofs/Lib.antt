@@ -1,0 +1,9 @@
+pub mod Fitted
+pub mod Marks
+pub mod Linked
+pub mod Standing
+pub mod Stacked
+pub mod Together
+pub mod Placing
+pub mod Heads
+pub mod Names

@@ -1,0 +1,10 @@
+pub mod Comparing
+pub mod Cutting
+pub mod Distinct
+pub mod Fitting
+pub mod Hats
+pub mod Keeping
+pub mod Monitors
+pub mod OneKey
+pub mod Sorting
+pub mod Turning
