@@ -1,0 +1,10 @@
+pub mod Peopled
+pub mod Differences
+pub mod Told
+pub mod Worlds
+pub mod Parts
+pub mod Keeping
+pub mod Judging
+pub mod SavedRun
+pub mod Running
+pub mod Written

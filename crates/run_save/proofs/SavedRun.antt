@@ -1,0 +1,76 @@
+-- The text of a saved run is that of the machine's world.
+use Rattle.std.proofs.Common.{◌≡◌, ℕ, List, false, sym, ap, ◌∙◌}
+use Rattle.std.specs.List.{All}
+use Rattle.rand_core.specs.Stream.{Stream}
+use Rattle.hex.specs.Hex.{encode_lower}
+use Rattle.script_machine.specs.Threads.{is_done}
+use Rattle.script_machine.specs.World.{World}
+use Rattle.script_machine.specs.Words.{seen_words}
+use Rattle.project_file.specs.Trees.{Sheet}
+use Rattle.project_check.specs.declared.project.Project.{Project}
+use Rattle.thread_frames.specs.Fit.{Fits}
+use Rattle.thread_frames.specs.Threads.{Thread}
+use Rattle.executions.specs.Seen.{sheets}
+use Rattle.sequencer.specs.Runs.{world_of, IsRunOf}
+use Rattle.sequencer.specs.declared.run.Run.{Run}
+use Rattle.saved_text.specs.Laws.{IsKept, SavesWhatIsLeft}
+use Rattle.saved_text.specs.Saved.{Snapshot, snapshot, saved, saved_text}
+use Rattle.saved_text.specs.Tasks.{task}
+use Rattle.saved_text.specs.Threads.{thread}
+use Rattle.serde_json.specs.Written.{compact_text}
+
+all_kept : (sheets : ℕ → Sheet) (ts : List Thread) → All (Fits sheets) ts → All (λ t. is_done t.status ≡ false) ts → All (IsKept sheets) ts
+all_kept sheets ts fits alive = λ k d h. record { fits = fits k d h; alive = alive k d h }
+
+-- the world of a run, with its threads by their levels
+abbrev pub levels_world : {R : Type 0} → (R → Stream) → Run R → World Thread
+levels_world stream r = record {
+  frame = r.state.frame;
+  words = seen_words stream r.state.words;
+  next_thread = r.state.next_thread;
+  next_instance = r.state.next_instance;
+  redraw = r.state.redraw;
+  targets = r.state.targets;
+  variables = r.state.variables;
+  devices = r.state.devices;
+  threads = r.state.threads;
+}
+
+-- what is saved are the parts of a run
+pub record HasParts {R : Type 0} (s : Snapshot Thread) (r : Run R) (digest : List ℕ) (seed_before drawn_before : ℕ) : Type 0 where
+  pub project : s.project ≡ encode_lower digest
+  pub seed : s.seed ≡ seed_before
+  pub drawn : s.drawn ≡ drawn_before
+  pub frame : s.frame ≡ r.state.frame
+  pub next_thread : s.next_thread ≡ r.state.next_thread
+  pub next_instance : s.next_instance ≡ r.state.next_instance
+  pub targets : s.targets ≡ r.state.targets
+  pub stores : s.variables.stores ≡ r.state.variables.stores
+  pub file_monitors : s.variables.file_monitors ≡ r.state.variables.file_monitors
+  pub made : s.variables.made ≡ r.state.variables.made
+  pub devices : s.devices ≡ r.state.devices
+  pub threads : s.threads ≡ r.state.threads.list
+
+seen_parts : {R : Type 0} (stream : R → Stream) (s : Snapshot Thread) (r : Run R) (digest : List ℕ) (seed : ℕ) → HasParts s r digest seed (levels_world stream r).words.drawn
+    → s ≡ snapshot digest seed (levels_world stream r)
+seen_parts stream s r digest seed h = λ i. record {
+  project = h.project i;
+  seed = h.seed i;
+  drawn = h.drawn i;
+  frame = h.frame i;
+  next_thread = h.next_thread i;
+  next_instance = h.next_instance i;
+  targets = h.targets i;
+  variables = record { stores = h.stores i; file_monitors = h.file_monitors i; made = h.made i };
+  devices = h.devices i;
+  threads = h.threads i;
+}
+
+pub is_text_of_run : {R : Type 0} (stream : R → Stream) (p : Project) (s : Snapshot Thread) (r : Run R) (digest : List ℕ) (seed : ℕ) → SavesWhatIsLeft → IsRunOf p r → HasParts s r digest seed (levels_world stream r).words.drawn
+    → saved_text thread s ≡ saved_text task (snapshot digest seed (world_of stream p r))
+unfolding saved_text
+is_text_of_run stream p s r digest seed law run h =
+    let w = levels_world stream r in
+    let kept = all_kept (sheets p) w.threads.list run.idle.resting.kept.threads.all.listed run.idle.alive in
+    ap (λ x. compact_text (saved thread x)) (seen_parts stream s r digest seed h)
+    ∙ ap compact_text (sym (law (sheets p) digest seed w kept))

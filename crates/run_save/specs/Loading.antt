@@ -1,0 +1,30 @@
+-- What the loading of a saved run answers.
+use Rattle.std.specs.Prelude.{◌≡◌, ℕ, List, None, Some, Result, Ok, Err}
+use Rattle.rand_core.specs.Stream.{Stream}
+use Rattle.project_check.specs.declared.project.Project.{Project}
+use Rattle.saved_rules.specs.Basis.{basis_of}
+use Rattle.saved_rules.specs.Levels.{bad_thread}
+use Rattle.saved_rules.specs.Refusals.{IsAccepted, IsRefused}
+use Rattle.saved_rules.specs.RunShapes.{Told}
+use Rattle.saved_rules.specs.declared.refusals.SaveRefusal.{SaveRefusal}
+use Rattle.saved_rules.specs.declared.refusals.SaveRefusal.TheVariants.{BadThread, NoMemory}
+use Rattle.sequencer.specs.Runs.{world_of, IsRunOf}
+use Rattle.sequencer.specs.declared.run.Run.{Run}
+use Rattle.run_save.specs.Worlds.{AllTold, world_told}
+
+-- a run of this project whose world is the one that is told
+pub record IsRunTold {R : Type 0} (stream : R → Stream) (p : Project) (t : Told) (run : Run R) : Type 0 where
+  pub world : world_of stream p run ≡ world_told (basis_of p) t
+  pub fits : IsRunOf p run
+
+-- the bytes are the saved run of the project that tells this run, and its seed; or they are refused so
+abbrev pub Loads : {R : Type 0} → (R → Stream) → Project → (digest bytes : List ℕ) → Result (Run R × ℕ) SaveRefusal → Type 0
+Loads stream p digest bytes (Ok r) = (t : Told) × IsAccepted (basis_of p) digest bytes t × IsRunTold stream p t r.0 × (r.1 ≡ t.run.seed)
+Loads stream p digest bytes (Err e) = IsRefused (basis_of p) digest bytes e
+
+-- a helper of private functions: the run was made, or a thread of it breaks a rule
+abbrev pub Makes : {R : Type 0} → (R → Stream) → Project → Told → Result (Run R) SaveRefusal → Type 0
+Makes stream p t (Ok run) = IsRunTold stream p t run × (bad_thread (basis_of p) t ≡ None) × AllTold (basis_of p) t t.run.threads
+Makes stream p t (Err (BadThread serial)) = bad_thread (basis_of p) t ≡ Some serial
+Makes stream p t (Err NoMemory) = Unit {0}
+Makes stream p t (Err e) = ⊥

@@ -1,0 +1,130 @@
+//! A saved run loaded.
+
+ghost use Rattle.std.specs.Prelude.{◌≡◌, None, IfOk};
+ghost use Rattle.script_words.specs.Words.{answers};
+ghost use Rattle.saved_parts.specs.Telling.{told_of};
+ghost use Rattle.saved_rules.specs.Basis.{basis_of};
+ghost use Rattle.saved_rules.specs.Rules.{broken};
+ghost use Rattle.saved_rules.specs.Refusals.{first_difference};
+ghost use Rattle.saved_text.specs.Saved.{saved_text, snapshot};
+ghost use Rattle.saved_text.specs.Tasks.{task};
+ghost use Rattle.sequencer.specs.Runs.{world_of, IsRunOf};
+ghost use Rattle.run_save.specs.Loading.{Loads, Makes};
+
+use crate::spelling::difference;
+use crate::telling::told_by;
+use crate::threads::parts_of;
+use executions::State;
+use project_check::Project;
+use rand_pcg::Pcg32;
+use saved_levels::Waiting;
+use saved_parts::ToldRun;
+use saved_rules::{SaveRefusal, a_saved_run_tells_its_world};
+use saved_stores::{RunStores, ToldDevices, ToldStores, stores_of};
+use saved_text::{SavedRun, a_saved_run_is_its_world, text_of};
+use script_words::pcg;
+use sequencer::Run;
+use std::alloc::{AllocError, Global};
+use thread_frames::Threads;
+
+// The run that a text tells which breaks no rule, but for its threads; they are told one by one.
+fn run_of(alloc: Global, project: &Project, told: ToldRun) -> Result<Run<Pcg32>, SaveRefusal>
+    requires { broken (basis_of project.now) (told_of told) ≡ None }
+    ensures { Makes answers project.now (told_of told) result }
+{
+    let waiting = Waiting::new(
+        alloc,
+        told.clock,
+        told.questions.as_slice(),
+        told.timers.as_slice(),
+    )?;
+    let stores = ToldStores {
+        instances: told.instances,
+        monitors: told.monitors,
+        made: told.made,
+        devices: ToldDevices {
+            answer: told.answer,
+            clock: told.clock,
+            timer: told.timer,
+            keys: told.keys,
+            mouse: told.mouse,
+            questions: told.questions,
+            timers: told.timers,
+            turbo: told.turbo,
+            usage: told.next.usage,
+        },
+    };
+    let RunStores {
+        targets,
+        variables,
+        devices,
+    } = stores_of(alloc, project, stores)?;
+    let parts = parts_of(alloc, project, &waiting, &targets, told.threads)?;
+    let threads = Threads::rebuild(alloc, parts)?;
+    let state = State {
+        frame: told.frame,
+        words: pcg(told.seed, told.drawn),
+        next_thread: told.next.thread,
+        next_instance: told.next.instance,
+        redraw: false,
+        targets,
+        variables,
+        devices,
+        threads,
+    };
+    Ok(Run::rebuild(alloc, state))
+}
+
+// How many bytes stand before the first that is not written so for a run. The only error is want of memory.
+fn misspelled(
+    alloc: Global,
+    project: &Project,
+    digest: &[u8; 32],
+    seed: u64,
+    run: &Run<Pcg32>,
+    bytes: &[u8],
+) -> Result<Option<u64>, AllocError>
+    requires { IsRunOf project.now run.now }
+    ensures { IfOk result (λ at. at ≡ first_difference bytes.now (saved_text task (snapshot digest.now seed (world_of answers project.now run.now)))) }
+{
+    a_saved_run_is_its_world();
+    let digest = *digest;
+    let variables = run.variables();
+    let saved = SavedRun {
+        digest,
+        seed,
+        drawn: run.words().drawn(),
+        frame: run.frame_number(),
+        next_thread: run.next_thread(),
+        next_instance: run.next_instance(),
+        instances: run.targets().instances(),
+        stores: variables.stores(),
+        file_monitors: variables.file_monitors().as_slice(),
+        made: variables.made().as_slice(),
+        devices: run.devices(),
+        threads: run.threads(),
+    };
+    let text = text_of(alloc, &saved)?;
+    Ok(difference(bytes, &text))
+}
+
+/// The run that the bytes of a saved run tell, and the seed of its random words, where they are the saved run of the project
+/// with this digest (docs/formats.md, section 5); else the first of the refusals, in their order. The only other error is
+/// want of memory.
+pub fn load(
+    alloc: Global,
+    project: &Project,
+    digest: &[u8; 32],
+    bytes: &[u8],
+) -> Result<(Run<Pcg32>, u64), SaveRefusal>
+    ensures { Loads answers project.now digest.now bytes.now result }
+{
+    a_saved_run_tells_its_world();
+    let told = told_by(alloc, project, digest, bytes)?;
+    let seed = told.seed;
+    let run = run_of(alloc, project, told)?;
+    match misspelled(alloc, project, digest, seed, &run, bytes)? {
+        None => Ok((run, seed)),
+        Some(at) => Err(SaveRefusal::Spelling { at }),
+    }
+}
