@@ -22,7 +22,7 @@ use Rattle.saved_text.specs.Saving.{longest}
 use Rattle.player.specs.Limits.{project_limit, script_limit}
 use Rattle.player.specs.Command.{Form}
 use Rattle.player.proofs.Programs.{one_program}
-use Rattle.player.specs.Promise.{Loading, refused, accepted, Loads, Checks, counts_of, OfFile, missing, too_large, not_accepted, unloaded, told, ran, unsaved, words_of, output_of, text_from, text_of_run, Ending, Outcome, ends, at_ending, all_of, counted, Calls, fetched, loaded, IsFetched, IsLoaded, AnswerCause, Wrote, CallsOf}
+use Rattle.player.specs.Promise.{Loading, refused, accepted, Bases, Loads, Checks, counts_of, OfFile, missing, too_large, not_accepted, not_continued, unloaded, told, ran, unsaved, words_of, output_of, text_from, text_of_run, Ending, Outcome, ends, at_ending, all_of, counted, Calls, fetched, loaded, IsFetched, IsLoaded, IsReady, AnswerCause, Wrote, CallsOf}
 use Rattle.player.specs.Saving.{PutsCalled}
 use Rattle.player.specs.Stages.{Fetched, Loaded, RefusedAs, PlayedTo}
 use Rattle.player.proofs.Outputs.{counted_more}
@@ -31,16 +31,16 @@ use Rattle.player.specs.declared.counts.Counts.{Counts}
 use Rattle.player.specs.declared.status.Which.{Which}
 use Rattle.player.specs.declared.status.Which.TheVariants as which
 use Rattle.player.specs.declared.status.Status.{Status}
-use Rattle.player.specs.declared.status.Status.TheVariants.{Done, Usage, ReadFault, WriteFault, BadProject, BadScript, Limit, TooLarge, NoMemory}
+use Rattle.player.specs.declared.status.Status.TheVariants.{Done, Usage, ReadFault, WriteFault, BadProject, BadSave, BadScript, Limit, TooLarge, NoMemory}
 
 -- a file that is held and within its limit
-fetched_ok : (file : Which) (limit : ℕ) (o : Option (List ℕ)) (bytes : List ℕ) (next : List ℕ → Outcome) → o ≡ Some bytes → length bytes ≤ limit → fetched file limit o next ≡ next bytes
+pub fetched_ok : (file : Which) (limit : ℕ) (o : Option (List ℕ)) (bytes : List ℕ) (next : List ℕ → Outcome) → o ≡ Some bytes → length bytes ≤ limit → fetched file limit o next ≡ next bytes
 fetched_ok file limit o bytes next e h =
     let small : ltb limit (length bytes) ≡ false = grind (arith, nat_tests) in
     ap (λ x. fetched file limit x next) e ∙ ap (λ b. cond b (ends (too_large file limit)) (next bytes)) small
 
 -- a file above its limit
-fetched_large : (file : Which) (limit : ℕ) (o : Option (List ℕ)) (next : List ℕ → Outcome) → IsSomeAnd o (λ bytes. limit < length bytes) → fetched file limit o next ≡ ends (too_large file limit)
+pub fetched_large : (file : Which) (limit : ℕ) (o : Option (List ℕ)) (next : List ℕ → Outcome) → IsSomeAnd o (λ bytes. limit < length bytes) → fetched file limit o next ≡ ends (too_large file limit)
 fetched_large file limit None next h = absurd h
 fetched_large file limit (Some bytes) next h =
     let large : ltb limit (length bytes) ≡ true = grind (arith, nat_tests) in
@@ -66,7 +66,7 @@ pub record IsReading {A : Type 0} (reads : Loading A → Type 0) : Type 0 where
 
 -- the whole project
 
-json_laws : JsonLaws
+pub json_laws : JsonLaws
 json_laws = record { tree = json_one_tree; fault = same_fault; apart = text_no_fault }
 
 one_count : (bytes : List ℕ) (c d : Counts) → Checks bytes (accepted c) → Checks bytes (accepted d) → d ≡ c
@@ -85,7 +85,7 @@ pub project_reading : (bytes : List ℕ) → IsReading (Loads bytes)
 project_reading bytes = record { one = one_refusal json_laws bytes; same = λ p q a b. one_program json_laws bytes q p b a; apart = project_apart bytes }
 
 -- what goes on with a file that was accepted
-accepted_ok : {A : Type 0} (reads : Loading A → Type 0) → IsReading reads → (a : A) (loading : Loading A) (next : A → Outcome) → reads (accepted a) → reads loading → loaded loading next ≡ next a
+pub accepted_ok : {A : Type 0} (reads : Loading A → Type 0) → IsReading reads → (a : A) (loading : Loading A) (next : A → Outcome) → reads (accepted a) → reads loading → loaded loading next ≡ next a
 accepted_ok reads is a (refused r) next p q = absurd (is.apart a r p q)
 accepted_ok reads is a (accepted b) next p q = ap next (is.same a b p q)
 
@@ -103,7 +103,7 @@ pub always : {A : Type 0} (reads : List ℕ → Loading A → Type 0) (next : Fi
 always reads next P None name k = tt
 always reads next P (Some files) name k = λ loading l. k (fetched which.Project project_limit (get files name) (λ bytes. loaded loading (next files bytes)))
 
-read_bytes : {A : Type 0} (reads : List ℕ → Loading A → Type 0) (o : Option (List ℕ)) (bytes : List ℕ) (loading : Loading A) → o ≡ Some bytes → OfFile reads o loading → reads bytes loading
+pub read_bytes : {A : Type 0} (reads : List ℕ → Loading A → Type 0) (o : Option (List ℕ)) (bytes : List ℕ) (loading : Loading A) → o ≡ Some bytes → OfFile reads o loading → reads bytes loading
 read_bytes reads o bytes loading e l = subst (λ x. OfFile reads x loading) e l
 
 pub at_load : {A : Type 0} (reads : List ℕ → Loading A → Type 0) (next : Files → List ℕ → A → Outcome) (P : Outcome → Type 0) (held : Option Files) (name bytes : List ℕ)
@@ -136,64 +136,82 @@ everywhere (Some files) p = p
 
 -- a project file that was fetched, and a project that was loaded
 
-script_ending : (b : Bool) (o : Outcome) → IsLoaded o.ending → IsLoaded (cond b (ends (too_large which.Script script_limit)) o).ending
+script_ending : (b : Bool) (o : Outcome) → IsReady o.ending → IsReady (cond b (ends (too_large which.Script script_limit)) o).ending
 script_ending true o h = tt
 script_ending false o h = h
 
-put_ending : (b : Bool) (o p : Outcome) → IsLoaded o.ending → IsLoaded p.ending → IsLoaded (cond b o p).ending
+put_ending : (b : Bool) (o p : Outcome) → IsReady o.ending → IsReady p.ending → IsReady (cond b o p).ending
 put_ending true o p h k = h
 put_ending false o p h k = k
 
-run_ending : (text : World Task → List ℕ) (writes : List (List ℕ)) (ending : RunEnding) → IsLoaded (at_ending text writes ending).ending
+run_ending : (text : World Task → List ℕ) (writes : List (List ℕ)) (ending : RunEnding) → IsReady (at_ending text writes ending).ending
 run_ending text writes (Whole last) = put_ending (ltb longest (length (text last))) _ _ tt tt
 run_ending text writes (BadLine r) = tt
 run_ending text writes (Limited s) = tt
 
-pub all_ending : (save : Option (List ℕ)) (text : World Task → List ℕ) (run : Output) → IsLoaded (all_of save text run).ending
+pub all_ending : (save : Option (List ℕ)) (text : World Task → List ℕ) (run : Output) → IsReady (all_of save text run).ending
 all_ending None text run = tt
 all_ending (Some name) text run = run_ending text run.writes run.ending
 
-loaded_ending : (o : Option (List ℕ)) (next : List ℕ → Outcome) → ((script : List ℕ) → IsLoaded (next script).ending) → IsLoaded (fetched which.Script script_limit o next).ending
+pub loaded_ending : (o : Option (List ℕ)) (next : List ℕ → Outcome) → ((script : List ℕ) → IsReady (next script).ending) → IsReady (fetched which.Script script_limit o next).ending
 loaded_ending None next h = tt
 loaded_ending (Some script) next h = script_ending (ltb script_limit (length script)) (next script) (h script)
 
-after_ending : (form : Form) (files : Files) (project : List ℕ) (p : Program) → IsLoaded (after_load form files project p).ending
+after_ending : (form : Form) (files : Files) (project : List ℕ) (p : Program) → IsReady (after_load form files project p).ending
 after_ending form files project p =
     loaded_ending (get files form.script) (λ script. all_of form.save (text_of_run project form.seed) (output_of p (words_of form.seed) script))
     (λ script. all_ending form.save (text_of_run project form.seed) (output_of p (words_of form.seed) script))
 
-is_fetched : (ending : Ending) → IsLoaded ending → IsFetched ending
+pub is_loaded : (ending : Ending) → IsReady ending → IsLoaded ending
+is_loaded (unloaded (missing which.Project)) h = absurd h
+is_loaded (unloaded (missing which.Saved)) h = tt
+is_loaded (unloaded (missing which.Script)) h = tt
+is_loaded (unloaded (too_large which.Project limit)) h = absurd h
+is_loaded (unloaded (too_large which.Saved limit)) h = tt
+is_loaded (unloaded (too_large which.Script limit)) h = tt
+is_loaded (unloaded (not_accepted r)) h = absurd h
+is_loaded (unloaded (not_continued r)) h = tt
+is_loaded told h = tt
+is_loaded (ran ending) h = tt
+is_loaded (unsaved n) h = tt
+
+pub is_fetched : (ending : Ending) → IsLoaded ending → IsFetched ending
 is_fetched (unloaded (missing which.Project)) h = absurd h
+is_fetched (unloaded (missing which.Saved)) h = tt
 is_fetched (unloaded (missing which.Script)) h = tt
 is_fetched (unloaded (too_large which.Project limit)) h = absurd h
+is_fetched (unloaded (too_large which.Saved limit)) h = tt
 is_fetched (unloaded (too_large which.Script limit)) h = tt
 is_fetched (unloaded (not_accepted r)) h = tt
+is_fetched (unloaded (not_continued r)) h = tt
 is_fetched told h = tt
 is_fetched (ran ending) h = tt
 is_fetched (unsaved n) h = tt
 
 pub loaded_fetched : (form : Form) (files : Files) (project : List ℕ) (p : Program) → IsFetched (after_load form files project p).ending
-loaded_fetched form files project p = is_fetched _ (after_ending form files project p)
+loaded_fetched form files project p = is_fetched _ (is_loaded _ (after_ending form files project p))
 
 -- A project that is refused.
 
-pub refused_cause : {A B : Type 0} (reads : Loading A → Type 0) (view : B → A) → IsReading reads → (failed wanted : Type 0) (status : Status) (next : A → Outcome) → ((a : A) → IsFetched (next a).ending)
-    → Loaded reads view (Err status) → (loading : Loading A) → reads loading → AnswerCause failed wanted (loaded loading next).ending status
-refused_cause reads view is failed wanted (BadProject r) next k h (refused s) q = ap (λ x. unloaded (not_accepted x)) (is.one s r q h.1)
-refused_cause reads view is failed wanted (BadProject r) next k h (accepted a) q = absurd (is.apart a r q h.1)
-refused_cause reads view is failed wanted NoMemory next k h (refused s) q = inr tt
-refused_cause reads view is failed wanted NoMemory next k h (accepted a) q = inr (k a)
-refused_cause reads view is failed wanted Done next k h loading q = absurd h
-refused_cause reads view is failed wanted Usage next k h loading q = absurd h
-refused_cause reads view is failed wanted ReadFault next k h loading q = absurd h
-refused_cause reads view is failed wanted WriteFault next k h loading q = absurd h
-refused_cause reads view is failed wanted (BadScript r) next k h loading q = absurd h
-refused_cause reads view is failed wanted (Limit l) next k h loading q = absurd h
-refused_cause reads view is failed wanted (TooLarge file limit) next k h loading q = absurd h
+pub refused_cause : {A B : Type 0} (reads : Loading A → Type 0) (view : B → A) → IsReading reads → (failed sf wanted : Type 0) (status : Status) (next : A → Outcome) → ((a : A) → IsFetched (next a).ending)
+    → Loaded reads view (Err status) → (loading : Loading A) → reads loading → AnswerCause failed sf wanted (loaded loading next).ending status
+refused_cause reads view is failed sf wanted (BadProject r) next k h (refused s) q = ap (λ x. unloaded (not_accepted x)) (is.one s r q h.1)
+refused_cause reads view is failed sf wanted (BadProject r) next k h (accepted a) q = absurd (is.apart a r q h.1)
+refused_cause reads view is failed sf wanted (BadSave r) next k h loading q = absurd h
+refused_cause reads view is failed sf wanted NoMemory next k h (refused s) q = inr tt
+refused_cause reads view is failed sf wanted NoMemory next k h (accepted a) q = inr (k a)
+refused_cause reads view is failed sf wanted Done next k h loading q = absurd h
+refused_cause reads view is failed sf wanted Usage next k h loading q = absurd h
+refused_cause reads view is failed sf wanted ReadFault next k h loading q = absurd h
+refused_cause reads view is failed sf wanted WriteFault next k h loading q = absurd h
+refused_cause reads view is failed sf wanted (BadScript r) next k h loading q = absurd h
+refused_cause reads view is failed sf wanted (Limit l) next k h loading q = absurd h
+refused_cause reads view is failed sf wanted (TooLarge file limit) next k h loading q = absurd h
 
 -- a refusal of a reader, told
 pub refused_load : {A B : Type 0} (reads : Loading A → Type 0) (view : B → A) (r : Refusal) (status : Status) → RefusedAs r status → (IsSome (text_of_refusal r) → reads (refused r)) → Loaded reads view (Err status)
 refused_load reads view r (BadProject s) h k = (h.1, subst (λ x. reads (refused x)) (sym h.0) (k (subst (λ x. IsSome (text_of_refusal x)) h.0 h.1)))
+refused_load reads view r (BadSave s) h k = absurd h
 refused_load reads view r NoMemory h k = tt
 refused_load reads view r Done h k = absurd h
 refused_load reads view r Usage h k = absurd h
@@ -224,26 +242,30 @@ count_cause bytes r h k = load_cause bytes r h k
 pub project_cause : (bytes : List ℕ) (r : Refusal) → LoadsProject bytes (Err r) → IsSome (text_of_refusal r) → Loads bytes (refused r)
 project_cause bytes r h k = load_cause bytes r h k
 
+pub basis_cause : (bytes : List ℕ) (r : Refusal) → LoadsProject bytes (Err r) → IsSome (text_of_refusal r) → Bases bytes (refused r)
+basis_cause bytes r h k = load_cause bytes r h k
+
 -- A script that is not fetched.
 
-script_cause : (A : Type 0) (items : A → List ℕ) (files : Files) (form : Form) (project : List ℕ) (p : Program) (failed wanted script_failed script_wanted : Type 0) (status : Status)
-    → Fetched (Some files) form.script which.Script script_limit script_failed script_wanted items (Err status) → AnswerCause failed wanted (after_load form files project p).ending status
-script_cause A items files form project p failed wanted f w ReadFault h = inr (after_ending form files project p)
-script_cause A items files form project p failed wanted f w (TooLarge file limit) h =
+script_cause : (A : Type 0) (items : A → List ℕ) (files : Files) (form : Form) (project : List ℕ) (p : Program) (failed sf wanted script_failed script_wanted : Type 0) (status : Status)
+    → Fetched (Some files) form.script which.Script script_limit script_failed script_wanted items (Err status) → AnswerCause failed sf wanted (after_load form files project p).ending status
+script_cause A items files form project p failed sf wanted f w ReadFault h = inr (inr (after_ending form files project p))
+script_cause A items files form project p failed sf wanted f w (TooLarge file limit) h =
     ap (λ (o : Outcome). o.ending) (fetched_large which.Script script_limit (get files form.script) (λ script. all_of form.save (text_of_run project form.seed) (output_of p (words_of form.seed) script)) h.2)
     ∙ ap (λ x. unloaded (too_large x script_limit)) (sym h.0) ∙ ap (λ l. unloaded (too_large file l)) (sym h.1)
-script_cause A items files form project p failed wanted f w NoMemory h = inr (loaded_fetched form files project p)
-script_cause A items files form project p failed wanted f w Done h = absurd h
-script_cause A items files form project p failed wanted f w Usage h = absurd h
-script_cause A items files form project p failed wanted f w WriteFault h = absurd h
-script_cause A items files form project p failed wanted f w (BadProject r) h = absurd h
-script_cause A items files form project p failed wanted f w (BadScript r) h = absurd h
-script_cause A items files form project p failed wanted f w (Limit l) h = absurd h
+script_cause A items files form project p failed sf wanted f w NoMemory h = inr (loaded_fetched form files project p)
+script_cause A items files form project p failed sf wanted f w Done h = absurd h
+script_cause A items files form project p failed sf wanted f w Usage h = absurd h
+script_cause A items files form project p failed sf wanted f w WriteFault h = absurd h
+script_cause A items files form project p failed sf wanted f w (BadProject r) h = absurd h
+script_cause A items files form project p failed sf wanted f w (BadSave r) h = absurd h
+script_cause A items files form project p failed sf wanted f w (BadScript r) h = absurd h
+script_cause A items files form project p failed sf wanted f w (Limit l) h = absurd h
 
-pub script_causes : (A : Type 0) (items : A → List ℕ) (held : Option Files) (form : Form) (project : List ℕ) (p : Program) (failed wanted script_failed script_wanted : Type 0) (status : Status)
-    → Fetched held form.script which.Script script_limit script_failed script_wanted items (Err status) → IfSome held (λ files. AnswerCause failed wanted (after_load form files project p).ending status)
-script_causes A items None form project p failed wanted f w status h = tt
-script_causes A items (Some files) form project p failed wanted f w status h = script_cause A items files form project p failed wanted f w status h
+pub script_causes : (A : Type 0) (items : A → List ℕ) (held : Option Files) (form : Form) (project : List ℕ) (p : Program) (failed sf wanted script_failed script_wanted : Type 0) (status : Status)
+    → Fetched held form.script which.Script script_limit script_failed script_wanted items (Err status) → IfSome held (λ files. AnswerCause failed sf wanted (after_load form files project p).ending status)
+script_causes A items None form project p failed sf wanted f w status h = tt
+script_causes A items (Some files) form project p failed sf wanted f w status h = script_cause A items files form project p failed sf wanted f w status h
 
 -- A fetch that ends the call leaves nothing written, whatever is told of the files.
 pub unfetched_wrote : (A : Type 0) (items : A → List ℕ) (held : Option Files) (name : List ℕ) (file : Which) (limit : ℕ) (failed wanted : Type 0) (status : Status) (old : Option (List ℕ)) (frames : List (List ℕ))
@@ -255,6 +277,7 @@ unfetched_wrote A items held name file limit failed wanted Done old frames h = a
 unfetched_wrote A items held name file limit failed wanted Usage old frames h = absurd h
 unfetched_wrote A items held name file limit failed wanted WriteFault old frames h = absurd h
 unfetched_wrote A items held name file limit failed wanted (BadProject r) old frames h = absurd h
+unfetched_wrote A items held name file limit failed wanted (BadSave r) old frames h = absurd h
 unfetched_wrote A items held name file limit failed wanted (BadScript r) old frames h = absurd h
 unfetched_wrote A items held name file limit failed wanted (Limit l) old frames h = absurd h
 
@@ -266,6 +289,7 @@ load_calls reads view files puts Done some h = absurd h
 load_calls reads view files puts Usage some h = absurd h
 load_calls reads view files puts ReadFault some h = absurd h
 load_calls reads view files puts WriteFault some h = absurd h
+load_calls reads view files puts (BadSave r) some h = absurd h
 load_calls reads view files puts (BadScript r) some h = absurd h
 load_calls reads view files puts (Limit l) some h = absurd h
 load_calls reads view files puts (TooLarge file l) some h = absurd h
@@ -273,42 +297,49 @@ load_calls reads view files puts (TooLarge file l) some h = absurd h
 project_is_no_script : which.Project ≡ which.Script → ⊥
 project_is_no_script e = cc
 
--- the script is fetched second
-pub script_calls : (puts : ℕ) (A : Type 0) (items : A → List ℕ) (held : Option Files) (name : List ℕ) (limit : ℕ) (failed wanted : Type 0) (status : Status)
-    → Fetched held name which.Script limit failed wanted items (Err status) → CallsOf 2 puts status 2
-script_calls puts A items held name limit failed wanted ReadFault h = (omega arith, omega arith)
-script_calls puts A items held name limit failed wanted (TooLarge which.Project l) h = absurd (project_is_no_script h.0)
-script_calls puts A items held name limit failed wanted (TooLarge which.Script l) h = refl
-script_calls puts A items held name limit failed wanted NoMemory h = omega arith
-script_calls puts A items held name limit failed wanted Done h = absurd h
-script_calls puts A items held name limit failed wanted Usage h = absurd h
-script_calls puts A items held name limit failed wanted WriteFault h = absurd h
-script_calls puts A items held name limit failed wanted (BadProject r) h = absurd h
-script_calls puts A items held name limit failed wanted (BadScript r) h = absurd h
-script_calls puts A items held name limit failed wanted (Limit l) h = absurd h
+saved_is_no_script : which.Saved ≡ which.Script → ⊥
+saved_is_no_script e = cc
+
+-- the script is fetched last
+pub script_calls : (files : ℕ) → 1 ≤ files → (puts : ℕ) (A : Type 0) (items : A → List ℕ) (held : Option Files) (name : List ℕ) (limit : ℕ) (failed wanted : Type 0) (status : Status)
+    → Fetched held name which.Script limit failed wanted items (Err status) → CallsOf files puts status files
+script_calls files some puts A items held name limit failed wanted ReadFault h = (some, omega arith)
+script_calls files some puts A items held name limit failed wanted (TooLarge which.Project l) h = absurd (project_is_no_script h.0)
+script_calls files some puts A items held name limit failed wanted (TooLarge which.Saved l) h = absurd (saved_is_no_script h.0)
+script_calls files some puts A items held name limit failed wanted (TooLarge which.Script l) h = refl
+script_calls files some puts A items held name limit failed wanted NoMemory h = omega arith
+script_calls files some puts A items held name limit failed wanted Done h = absurd h
+script_calls files some puts A items held name limit failed wanted Usage h = absurd h
+script_calls files some puts A items held name limit failed wanted WriteFault h = absurd h
+script_calls files some puts A items held name limit failed wanted (BadProject r) h = absurd h
+script_calls files some puts A items held name limit failed wanted (BadSave r) h = absurd h
+script_calls files some puts A items held name limit failed wanted (BadScript r) h = absurd h
+script_calls files some puts A items held name limit failed wanted (Limit l) h = absurd h
 
 -- The lines were played, or the counts were told.
-pub played_cause : (ending : Ending) (failed wanted write_failed : Type 0) (status : Status) → IsLoaded ending → PlayedTo ending write_failed status → AnswerCause failed wanted ending status
-played_cause ending failed wanted write_failed Done l h = h
-played_cause ending failed wanted write_failed (BadScript r) l h = h
-played_cause ending failed wanted write_failed (Limit m) l h = h
-played_cause ending failed wanted write_failed WriteFault l h = l
-played_cause ending failed wanted write_failed NoMemory l h = inr (is_fetched ending l)
-played_cause ending failed wanted write_failed Usage l h = h
-played_cause ending failed wanted write_failed ReadFault l h = absurd h
-played_cause ending failed wanted write_failed (BadProject r) l h = absurd h
-played_cause ending failed wanted write_failed (TooLarge file limit) l h = absurd h
+pub played_cause : (ending : Ending) (failed sf wanted write_failed : Type 0) (status : Status) → IsReady ending → PlayedTo ending write_failed status → AnswerCause failed sf wanted ending status
+played_cause ending failed sf wanted write_failed Done l h = h
+played_cause ending failed sf wanted write_failed (BadScript r) l h = h
+played_cause ending failed sf wanted write_failed (Limit m) l h = h
+played_cause ending failed sf wanted write_failed WriteFault l h = l
+played_cause ending failed sf wanted write_failed NoMemory l h = inr (is_fetched ending (is_loaded ending l))
+played_cause ending failed sf wanted write_failed Usage l h = h
+played_cause ending failed sf wanted write_failed ReadFault l h = absurd h
+played_cause ending failed sf wanted write_failed (BadProject r) l h = absurd h
+played_cause ending failed sf wanted write_failed (BadSave r) l h = absurd h
+played_cause ending failed sf wanted write_failed (TooLarge file limit) l h = absurd h
 
-pub played_calls : (ending : Ending) (write_failed : Type 0) (puts before then after : ℕ) (status : Status) → PlayedTo ending write_failed status → then ≡ counted 2 before → PutsCalled then after puts status → Calls before after 2 puts status
-played_calls ending write_failed puts before then after Done h e k = (2 + puts, refl, k ∙ ap (counted puts) e ∙ sym (counted_more 2 puts before))
-played_calls ending write_failed puts before then after (BadScript r) h e k = (2, refl, k ∙ e)
-played_calls ending write_failed puts before then after (Limit l) h e k = (2, refl, k ∙ e)
-played_calls ending write_failed puts before then after WriteFault h e k = (2 + k.0, (omega arith, omega (arith, k.1)), k.2 ∙ ap (counted k.0) e ∙ sym (counted_more 2 k.0 before))
-played_calls ending write_failed puts before then after NoMemory h e k = (2 + k.0, omega (arith, k.1), k.2 ∙ ap (counted k.0) e ∙ sym (counted_more 2 k.0 before))
-played_calls ending write_failed puts before then after Usage h e k = absurd h
-played_calls ending write_failed puts before then after ReadFault h e k = absurd h
-played_calls ending write_failed puts before then after (BadProject r) h e k = absurd h
-played_calls ending write_failed puts before then after (TooLarge file limit) h e k = absurd h
+pub played_calls : (files : ℕ) (ending : Ending) (write_failed : Type 0) (puts before then after : ℕ) (status : Status) → PlayedTo ending write_failed status → then ≡ counted files before → PutsCalled then after puts status → Calls before after files puts status
+played_calls files ending write_failed puts before then after Done h e k = (files + puts, refl, k ∙ ap (counted puts) e ∙ sym (counted_more files puts before))
+played_calls files ending write_failed puts before then after (BadScript r) h e k = (files, refl, k ∙ e)
+played_calls files ending write_failed puts before then after (Limit l) h e k = (files, refl, k ∙ e)
+played_calls files ending write_failed puts before then after WriteFault h e k = (files + k.0, (omega arith, omega (arith, k.1)), k.2 ∙ ap (counted k.0) e ∙ sym (counted_more files k.0 before))
+played_calls files ending write_failed puts before then after NoMemory h e k = (files + k.0, omega (arith, k.1), k.2 ∙ ap (counted k.0) e ∙ sym (counted_more files k.0 before))
+played_calls files ending write_failed puts before then after Usage h e k = absurd h
+played_calls files ending write_failed puts before then after ReadFault h e k = absurd h
+played_calls files ending write_failed puts before then after (BadProject r) h e k = absurd h
+played_calls files ending write_failed puts before then after (BadSave r) h e k = absurd h
+played_calls files ending write_failed puts before then after (TooLarge file limit) h e k = absurd h
 
 pub told_calls : (ending : Ending) (write_failed : Type 0) (status : Status) → PlayedTo ending write_failed status → CallsOf 1 0 status 1
 told_calls ending write_failed Done h = refl
@@ -319,6 +350,7 @@ told_calls ending write_failed NoMemory h = omega arith
 told_calls ending write_failed Usage h = absurd h
 told_calls ending write_failed ReadFault h = absurd h
 told_calls ending write_failed (BadProject r) h = absurd h
+told_calls ending write_failed (BadSave r) h = absurd h
 told_calls ending write_failed (TooLarge file limit) h = absurd h
 
 -- The words of a seed.

@@ -6,7 +6,7 @@ use Rattle.player.specs.Promise.{Ending, Outcome, PutFailed, Shelved, IsUnshelve
 use Rattle.player.specs.Saving.{PutSteadily}
 use Rattle.player.specs.Stages.{PlayedSteadily, PlayedTo}
 use Rattle.player.specs.declared.status.Status.{Status}
-use Rattle.player.specs.declared.status.Status.TheVariants.{Done, Usage, ReadFault, WriteFault, BadProject, BadScript, Limit, TooLarge, NoMemory}
+use Rattle.player.specs.declared.status.Status.TheVariants.{Done, Usage, ReadFault, WriteFault, BadProject, BadSave, BadScript, Limit, TooLarge, NoMemory}
 
 -- Counts that stood still before
 
@@ -29,6 +29,7 @@ fault_cause ending f w p q NoMemory k h = tt
 fault_cause ending f w p q Usage k h = absurd h
 fault_cause ending f w p q ReadFault k h = absurd h
 fault_cause ending f w p q (BadProject r) k h = absurd h
+fault_cause ending f w p q (BadSave r) k h = absurd h
 fault_cause ending f w p q (TooLarge file l) k h = absurd h
 
 pub silent_cause : (ending : Ending) (failed : Type 0) (old new : Option (List ℕ)) (status : Status) → PlayedTo ending failed status → IsSilent old new status
@@ -40,6 +41,7 @@ silent_cause ending f old new NoMemory h = tt
 silent_cause ending f old new Usage h = absurd h
 silent_cause ending f old new ReadFault h = absurd h
 silent_cause ending f old new (BadProject r) h = absurd h
+silent_cause ending f old new (BadSave r) h = absurd h
 silent_cause ending f old new (TooLarge file l) h = absurd h
 
 pub no_usage : (ending : Ending) (failed : Type 0) (status : Status) → PlayedTo ending failed status → status ≡ Usage → ⊥
@@ -55,6 +57,7 @@ writes_cause before after p q texts NoMemory k h = h
 writes_cause before after p q texts Usage k h = h
 writes_cause before after p q texts ReadFault k h = h
 writes_cause before after p q texts (BadProject r) k h = h
+writes_cause before after p q texts (BadSave r) k h = h
 writes_cause before after p q texts (TooLarge file l) k h = h
 
 pub shelved_cause : (old new : Option Files) (failed mine : Type 0) (save : Option (List ℕ)) (o : Outcome) (status : Status) → (failed → mine) → Shelved old new failed save o status → Shelved old new mine save o status
@@ -68,6 +71,7 @@ shelved_cause old new p q (Some name) o NoMemory k h = h
 shelved_cause old new p q (Some name) o Usage k h = h
 shelved_cause old new p q (Some name) o ReadFault k h = h
 shelved_cause old new p q (Some name) o (BadProject r) k h = h
+shelved_cause old new p q (Some name) o (BadSave r) k h = h
 shelved_cause old new p q (Some name) o (TooLarge file l) k h = h
 
 pub unshelved_cause : (old new : Option Files) (failed : Type 0) (save : Option (List ℕ)) (o : Outcome) (status : Status) → Shelved old new failed save o status → IsUnshelved old new save status
@@ -80,6 +84,7 @@ unshelved_cause old new p (Some name) o NoMemory h = h
 unshelved_cause old new p (Some name) o Usage h = h
 unshelved_cause old new p (Some name) o ReadFault h = h
 unshelved_cause old new p (Some name) o (BadProject r) h = h
+unshelved_cause old new p (Some name) o (BadSave r) h = h
 unshelved_cause old new p (Some name) o (TooLarge file l) h = h
 
 pub hides_nothing : (ending : Ending) (failed : Type 0) (fetches fetches_now puts puts_now : List ℕ → ℕ) (writes writes_now : ℕ) (status : Status) → PlayedTo ending failed status → NoneRose fetches fetches_now → PutSteadily puts puts_now status
@@ -92,6 +97,7 @@ hides_nothing ending failed fs fn ps pn ws wn NoMemory c f p w = record { fetche
 hides_nothing ending failed fs fn ps pn ws wn Usage c f p w = absurd c
 hides_nothing ending failed fs fn ps pn ws wn ReadFault c f p w = absurd c
 hides_nothing ending failed fs fn ps pn ws wn (BadProject r) c f p w = absurd c
+hides_nothing ending failed fs fn ps pn ws wn (BadSave r) c f p w = absurd c
 hides_nothing ending failed fs fn ps pn ws wn (TooLarge file l) c f p w = absurd c
 
 pub steady_behind : (before then after : List ℕ → ℕ) (status : Status) → NoneRose before then → PutSteadily then after status → PutSteadily before after status
@@ -103,4 +109,5 @@ steady_behind before then after NoMemory e h = none_rose_behind before then afte
 steady_behind before then after Usage e h = none_rose_behind before then after e h
 steady_behind before then after ReadFault e h = none_rose_behind before then after e h
 steady_behind before then after (BadProject r) e h = none_rose_behind before then after e h
+steady_behind before then after (BadSave r) e h = none_rose_behind before then after e h
 steady_behind before then after (TooLarge file l) e h = none_rose_behind before then after e h

@@ -4,5 +4,5 @@ pub mod Outputs
 pub mod Turns
 pub mod Calls
 pub mod Saved
-pub mod SavedRun
 pub mod Ends
+pub mod Resumes

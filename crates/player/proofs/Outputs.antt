@@ -17,7 +17,7 @@ use Rattle.player.specs.Promise.{Wrote, Writes, counted, ran, ending_at}
 use Rattle.player.specs.Stages.{HasMet, IsLineEnd, LineEnds, LineWrote, LineWrites, PlayedTo}
 use Rattle.player.specs.declared.status.Limit.{Limit as LimitMet}
 use Rattle.player.specs.declared.status.Status.{Status}
-use Rattle.player.specs.declared.status.Status.TheVariants.{Done, Usage, ReadFault, WriteFault, BadProject, BadScript, Limit, TooLarge, NoMemory}
+use Rattle.player.specs.declared.status.Status.TheVariants.{Done, Usage, ReadFault, WriteFault, BadProject, BadSave, BadScript, Limit, TooLarge, NoMemory}
 
 -- these texts were written, and then the left ones make the whole
 pub record IsPartOf (all left : Output) (old new : Option (List ℕ)) (before after : ℕ) : Type 0 where
@@ -117,6 +117,7 @@ err_wrote all left next fs old mid new before then failed Usage part e last h = 
 err_wrote all left next fs old mid new before then failed ReadFault part e last h = absurd h
 err_wrote all left next fs old mid new before then failed WriteFault part e last h = part_cut all left next fs old mid new before then part e h.1
 err_wrote all left next fs old mid new before then failed (BadProject r) part e last h = absurd h
+err_wrote all left next fs old mid new before then failed (BadSave r) part e last h = absurd h
 err_wrote all left next fs old mid new before then failed (BadScript r) part e last h = absurd h
 err_wrote all left next fs old mid new before then failed (Limit l) part e last h = whole_wrote all left next fs old mid new before then part e last h
 err_wrote all left next fs old mid new before then failed (TooLarge file limit) part e last h = absurd h
@@ -132,6 +133,7 @@ err_writes all left next fs old mid before then after WriteFault part e last h =
     let one : length part.done + 1 ≡ suc (length part.done) = omega arith in
     inl (length part.done, omega (arith, len, h.0), some_more (length part.done) 1 before then after part.calls h.1 ∙ ap (λ n. counted n before) one)
 err_writes all left next fs old mid before then after (BadProject r) part e last h = absurd h
+err_writes all left next fs old mid before then after (BadSave r) part e last h = absurd h
 err_writes all left next fs old mid before then after (BadScript r) part e last h = absurd h
 err_writes all left next fs old mid before then after (Limit l) part e last h = whole_writes all left next fs old mid before then after part e last h
 err_writes all left next fs old mid before then after (TooLarge file limit) part e last h = absurd h
@@ -147,6 +149,7 @@ err_cause all left next fs old mid new before then failed o Usage part e k h w =
 err_cause all left next fs old mid new before then failed o ReadFault part e k h w = absurd h
 err_cause all left next fs old mid new before then failed o WriteFault part e k h w = w.0
 err_cause all left next fs old mid new before then failed o (BadProject r) part e k h w = absurd h
+err_cause all left next fs old mid new before then failed o (BadSave r) part e k h w = absurd h
 err_cause all left next fs old mid new before then failed o (BadScript r) part e k h w = absurd h
 err_cause all left next fs old mid new before then failed o (Limit l) part e k h w = ap ran (sym part.ending ∙ ap (λ (x : Output). x.ending) e) ∙ k l h
 err_cause all left next fs old mid new before then failed o (TooLarge file limit) part e k h w = absurd h
@@ -174,6 +177,7 @@ refused_cause ending failed r Usage h k = absurd h
 refused_cause ending failed r ReadFault h k = absurd h
 refused_cause ending failed r WriteFault h k = absurd h
 refused_cause ending failed r (BadProject q) h k = absurd h
+refused_cause ending failed r (BadSave q) h k = absurd h
 refused_cause ending failed r (Limit l) h k = absurd h
 refused_cause ending failed r (TooLarge file limit) h k = absurd h
 
@@ -185,6 +189,7 @@ refused_wrote all left old mid before then r Usage part h k = absurd h
 refused_wrote all left old mid before then r ReadFault part h k = absurd h
 refused_wrote all left old mid before then r WriteFault part h k = absurd h
 refused_wrote all left old mid before then r (BadProject q) part h k = absurd h
+refused_wrote all left old mid before then r (BadSave q) part h k = absurd h
 refused_wrote all left old mid before then r (Limit l) part h k = absurd h
 refused_wrote all left old mid before then r (TooLarge file limit) part h k = absurd h
 
@@ -201,6 +206,7 @@ refused_writes all left old mid before then r Usage part h k = absurd h
 refused_writes all left old mid before then r ReadFault part h k = absurd h
 refused_writes all left old mid before then r WriteFault part h k = absurd h
 refused_writes all left old mid before then r (BadProject q) part h k = absurd h
+refused_writes all left old mid before then r (BadSave q) part h k = absurd h
 refused_writes all left old mid before then r (Limit l) part h k = absurd h
 refused_writes all left old mid before then r (TooLarge file limit) part h k = absurd h
 

@@ -47,7 +47,7 @@ agree_checked tables c d p q =
     let at : j ≡ 0 + j = omega arith in
     subst (λ i. c i k ≡ d i k) at (same_truth (c j k) (d j k) (IsChecked blocks k) (p j k blocks e) (q j k blocks e)))
 
-one_program_of : (f : File) (p q : Program) → IsProgram f p → IsProgram f q → p ≡ q
+pub one_program_of : (f : File) (p q : Program) → IsProgram f p → IsProgram f q → p ≡ q
 one_program_of f p q a b =
     a.is ∙ ap (program (blocks_in f)) (targets_alike a.checked b.checked 0 (blocks_in f) f.records (agree_checked (blocks_in f) a.checked b.checked a.tells b.tells)) ∙ sym b.is
 

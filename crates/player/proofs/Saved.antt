@@ -19,7 +19,7 @@ use Rattle.player.specs.Stages.{IsLimitEnd, LineWrote, LineWrites, LineSteadily,
 use Rattle.player.specs.declared.status.Limit.{Limit as LimitMet}
 use Rattle.player.specs.declared.status.Limit.TheVariants as limit
 use Rattle.player.specs.declared.status.Status.{Status}
-use Rattle.player.specs.declared.status.Status.TheVariants.{Done, Usage, ReadFault, WriteFault, BadProject, BadScript, Limit, TooLarge, NoMemory}
+use Rattle.player.specs.declared.status.Status.TheVariants.{Done, Usage, ReadFault, WriteFault, BadProject, BadSave, BadScript, Limit, TooLarge, NoMemory}
 use Rattle.player.proofs.Outputs.{counted_more}
 
 none_rose : (count : List ℕ → ℕ) → NoneRose count count
@@ -115,6 +115,7 @@ ends_put name text w s t k NoMemory h fetches puts calls = record {
 ends_put name text w s t k Usage h fetches puts calls = absurd h
 ends_put name text w s t k ReadFault h fetches puts calls = absurd h
 ends_put name text w s t k (BadProject r) h fetches puts calls = absurd h
+ends_put name text w s t k (BadSave r) h fetches puts calls = absurd h
 ends_put name text w s t k (BadScript r) h fetches puts calls = absurd h
 ends_put name text w s t k (Limit l) h fetches puts calls = absurd h
 ends_put name text w s t k (TooLarge file m) h fetches puts calls = absurd h
@@ -160,6 +161,7 @@ ends_long name n s k l Done wrote end faults steady writes = absurd end
 ends_long name n s k l Usage wrote end faults steady writes = absurd end
 ends_long name n s k l ReadFault wrote end faults steady writes = absurd end
 ends_long name n s k l (BadProject r) wrote end faults steady writes = absurd end
+ends_long name n s k l (BadSave r) wrote end faults steady writes = absurd end
 ends_long name n s k l (BadScript r) wrote end faults steady writes = absurd end
 ends_long name n s k l (TooLarge file m) wrote end faults steady writes = absurd end
 
@@ -210,6 +212,7 @@ wrote_behind ending failed old mid new writes texts NoMemory c g h = some_behind
 wrote_behind ending failed old mid new writes texts Usage c g h = absurd c
 wrote_behind ending failed old mid new writes texts ReadFault c g h = absurd c
 wrote_behind ending failed old mid new writes texts (BadProject r) c g h = absurd c
+wrote_behind ending failed old mid new writes texts (BadSave r) c g h = absurd c
 wrote_behind ending failed old mid new writes texts (TooLarge file l) c g h = absurd c
 
 count_behind : (before then after : ℕ) (writes : List (List ℕ)) (n : ℕ) → then ≡ counted (length writes) before → after ≡ counted n then → after ≡ counted (length writes + n) before
@@ -241,6 +244,7 @@ writes_behind ending cause before then after failed writes texts NoMemory c e h 
 writes_behind ending cause before then after failed writes texts Usage c e h = absurd c
 writes_behind ending cause before then after failed writes texts ReadFault c e h = absurd c
 writes_behind ending cause before then after failed writes texts (BadProject r) c e h = absurd c
+writes_behind ending cause before then after failed writes texts (BadSave r) c e h = absurd c
 writes_behind ending cause before then after failed writes texts (TooLarge file l) c e h = absurd c
 
 shelved_behind : (old new : Option Files) (failed : Type 0) (save : Option (List ℕ)) (writes : List (List ℕ)) (o : Outcome) (status : Status) → Shelved old new failed save o status → Shelved old new failed save (behind writes o) status
@@ -250,6 +254,7 @@ shelved_behind old new failed (Some name) writes o WriteFault h = h
 shelved_behind old new failed (Some name) writes o Usage h = h
 shelved_behind old new failed (Some name) writes o ReadFault h = h
 shelved_behind old new failed (Some name) writes o (BadProject r) h = h
+shelved_behind old new failed (Some name) writes o (BadSave r) h = h
 shelved_behind old new failed (Some name) writes o (BadScript r) h = h
 shelved_behind old new failed (Some name) writes o (Limit l) h = h
 shelved_behind old new failed (Some name) writes o (TooLarge file l) h = h
@@ -286,13 +291,14 @@ limit_not_whole ending (limit.Text n) h = ap is_whole h
 limit_not_whole ending (limit.Counter which) h = ap is_whole h
 limit_not_whole ending (limit.Save n) h = ap is_whole h
 
-unchanged : (held : Option Files) (failed : Type 0) (save : Option (List ℕ)) (o : Outcome) (status : Status) → (status ≡ Done → ⊥) → Shelved held held failed save o status
+pub unchanged : (held : Option Files) (failed : Type 0) (save : Option (List ℕ)) (o : Outcome) (status : Status) → (status ≡ Done → ⊥) → Shelved held held failed save o status
 unchanged held failed None o status other = refl
 unchanged held failed (Some name) o Done other = absurd (other refl)
 unchanged held failed (Some name) o WriteFault other = inl refl
 unchanged held failed (Some name) o Usage other = refl
 unchanged held failed (Some name) o ReadFault other = refl
 unchanged held failed (Some name) o (BadProject r) other = refl
+unchanged held failed (Some name) o (BadSave r) other = refl
 unchanged held failed (Some name) o (BadScript r) other = refl
 unchanged held failed (Some name) o (Limit l) other = refl
 unchanged held failed (Some name) o (TooLarge file l) other = refl
@@ -357,6 +363,7 @@ cut_ends save writes o s k l Done is c h faults steady counts = absurd (⊎_elim
 cut_ends save writes o s k l Usage is c h faults steady counts = absurd c
 cut_ends save writes o s k l ReadFault is c h faults steady counts = absurd c
 cut_ends save writes o s k l (BadProject r) is c h faults steady counts = absurd c
+cut_ends save writes o s k l (BadSave r) is c h faults steady counts = absurd c
 cut_ends save writes o s k l (BadScript r) is c h faults steady counts = absurd (⊎_elim (λ e. cc e) (λ e. cc e) is)
 cut_ends save writes o s k l (Limit m) is c h faults steady counts = absurd (⊎_elim (λ e. cc e) (λ e. cc e) is)
 cut_ends save writes o s k l (TooLarge file m) is c h faults steady counts = absurd c
@@ -392,6 +399,7 @@ told_ends save run s k l Done other c h faults steady counts no_fault some_memor
 told_ends save run s k l Usage other c h faults steady counts no_fault some_memory = absurd c
 told_ends save run s k l ReadFault other c h faults steady counts no_fault some_memory = absurd c
 told_ends save run s k l (BadProject r) other c h faults steady counts no_fault some_memory = absurd c
+told_ends save run s k l (BadSave r) other c h faults steady counts no_fault some_memory = absurd c
 told_ends save run s k l (TooLarge file m) other c h faults steady counts no_fault some_memory = absurd c
 
 whole_save : (save : Option (List ℕ)) (text : World Task → List ℕ) (run : Output) (s : ShelfNow) (k l : SinkNow) (status : Status) → (is_whole (ran run.ending) ≡ false) → EndsAs save (only_written run.writes run.ending) s s k l status
@@ -417,6 +425,7 @@ ends_early save text run s k l Done other c h faults steady counts = absurd (oth
 ends_early save text run s k l Usage other c h faults steady counts = absurd c
 ends_early save text run s k l ReadFault other c h faults steady counts = absurd c
 ends_early save text run s k l (BadProject r) other c h faults steady counts = absurd c
+ends_early save text run s k l (BadSave r) other c h faults steady counts = absurd c
 ends_early save text run s k l (TooLarge file m) other c h faults steady counts = absurd c
 
 -- it was, and the run was saved

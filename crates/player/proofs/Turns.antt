@@ -19,7 +19,7 @@ use Rattle.player.specs.Stages.{line_writes, HasMet, LineEnds}
 use Rattle.player.specs.declared.status.Limit.{Limit as LimitMet}
 use Rattle.player.specs.declared.status.Limit.TheVariants as limit
 use Rattle.player.specs.declared.status.Status.{Status}
-use Rattle.player.specs.declared.status.Status.TheVariants.{Done, Usage, ReadFault, WriteFault, BadProject, BadScript, Limit, TooLarge, NoMemory}
+use Rattle.player.specs.declared.status.Status.TheVariants.{Done, Usage, ReadFault, WriteFault, BadProject, BadSave, BadScript, Limit, TooLarge, NoMemory}
 use Rattle.player.proofs.Outputs.{IsLast}
 
 -- what follows a line: the lines behind it, or nothing where it reached a limit
@@ -95,6 +95,7 @@ line_last p n last lines o Usage h = tt
 line_last p n last lines o ReadFault h = tt
 line_last p n last lines o WriteFault h = tt
 line_last p n last lines o (BadProject r) h = tt
+line_last p n last lines o (BadSave r) h = tt
 line_last p n last lines o (BadScript r) h = tt
 line_last p n last lines o (TooLarge file m) h = tt
 line_last p n last lines o NoMemory h = tt

@@ -4,7 +4,7 @@
 -- passes, frames. A frame's text is that of FrameText there; Output goes through the lines of a script, which ScriptText
 -- reads; the text of a saved run is that of saved_text/specs, Saved; Command reads the words; Limits names the numbers. Which project files are accepted, the refusal of the others, and
 -- the program of an accepted file, is that of project_file/specs, Refusals.
-use Rattle.std.specs.Prelude.{◌≡◌, ◌⊎◌, ℕ, zero, suc, ◌+◌, ◌<◌, ◌≤◌, nat_lt, Bool, true, false, List, [], ◌∷◌, ◌++◌, length, take, codes, Option, None, Some, IfSome, IsSome, if◌then◌else◌}
+use Rattle.std.specs.Prelude.{◌≡◌, ◌≢◌, ◌⊎◌, ℕ, zero, suc, ◌+◌, ◌<◌, ◌≤◌, nat_lt, Bool, true, false, List, [], ◌∷◌, ◌++◌, length, map, take, codes, Option, None, Some, IfSome, IsSome, if◌then◌else◌}
 use Rattle.std.specs.Fmt.{decimal}
 use Rattle.std.specs.List.{concat}
 use Rattle.std.specs.FinMap.{get}
@@ -24,22 +24,28 @@ use Rattle.script_machine.specs.Output.{Output, Ending as RunEnding, Whole, BadL
 use Rattle.script_machine.specs.Tasks.{Task}
 use Rattle.script_machine.specs.World.{World}
 use Rattle.project_file.specs.Reading.{File, blocks_in}
-use Rattle.project_file.specs.Refusals.{IsRefusal, IsAccepted, IsProject}
+use Rattle.project_file.specs.Refusals.{IsRefusal, IsAccepted, IsProgram, IsProject}
 use Rattle.project_file.specs.declared.refusals.Refusal.{Refusal}
 use Rattle.project_check.specs.Counts.{block_count}
+use Rattle.run_save.specs.Worlds.{world_told}
+use Rattle.saved_rules.specs.Basis.{Basis}
+use Rattle.saved_rules.specs.Refusals.{IsRefused, IsAccepted as IsSavedRun}
+use Rattle.saved_rules.specs.RunShapes.{Told}
+use Rattle.saved_rules.specs.declared.refusals.SaveRefusal.{SaveRefusal}
+use Rattle.saved_rules.specs.declared.refusals.SaveRefusal.TheVariants as save_refusal
 use Rattle.saved_text.specs.Saved.{snapshot, saved_text}
 use Rattle.saved_text.specs.Saving.{longest}
 use Rattle.saved_text.specs.Tasks.{task}
-use Rattle.player.specs.Limits.{project_limit, script_limit}
-use Rattle.player.specs.Command.{Form, Command, play, check, command_of}
-use Rattle.player.specs.Told.{text_of_refusal}
+use Rattle.player.specs.Limits.{project_limit, saved_limit, script_limit}
+use Rattle.player.specs.Command.{Form, ResumeForm, Command, play, resume, check, command_of}
+use Rattle.player.specs.Told.{text_of_refusal, text_of_save_refusal}
 use Rattle.player.specs.declared.counts.Counts.{Counts}
 use Rattle.player.specs.declared.status.Limit.{Limit as LimitMet}
 use Rattle.player.specs.declared.status.Limit.TheVariants as limit
 use Rattle.player.specs.declared.status.Which.{Which}
 use Rattle.player.specs.declared.status.Which.TheVariants as which
 use Rattle.player.specs.declared.status.Status.{Status}
-use Rattle.player.specs.declared.status.Status.TheVariants.{Done, Usage, ReadFault, WriteFault, BadProject, BadScript, Limit, TooLarge, NoMemory}
+use Rattle.player.specs.declared.status.Status.TheVariants.{Done, Usage, ReadFault, WriteFault, BadProject, BadSave, BadScript, Limit, TooLarge, NoMemory}
 
 -- 1. What a project file stands for
 
@@ -62,10 +68,30 @@ abbrev pub Checks : List ℕ → Loading Counts → Type 0
 Checks bytes (refused r) = IsRefusal bytes r
 Checks bytes (accepted c) = (f : File) × IsAccepted bytes f × (c ≡ counts_of f)
 
+-- what is gone on with: the program of the file, and how many blocks each target has
+abbrev pub Bases : List ℕ → Loading Basis → Type 0
+Bases bytes (refused r) = IsRefusal bytes r
+Bases bytes (accepted b) = (f : File) × IsAccepted bytes f × IsProgram f b.program × (b.blocks ≡ map length (blocks_in f))
+
 -- the same of a file that may not be held
 abbrev pub OfFile : {A : Type 0} → (List ℕ → Loading A → Type 0) → Option (List ℕ) → Loading A → Type 0
 OfFile reads None loading = Unit {0}
 OfFile reads (Some bytes) loading = reads bytes loading
+
+-- a saved run is refused, or tells this run
+pub data Continuing : Type 0 where
+  rejected : SaveRefusal → Continuing
+  continued : Told → Continuing
+
+-- what a saved run of a project file stands for; want of memory is no refusal
+abbrev pub Continues : Basis → (project bytes : List ℕ) → Continuing → Type 0
+Continues b project bytes (rejected r) = (r ≢ save_refusal.NoMemory) × IsRefused b (sha256 project) bytes r
+Continues b project bytes (continued t) = IsSavedRun b (sha256 project) bytes t
+
+-- the same where both files are held and the project is accepted
+abbrev pub OfSaved : Option (List ℕ) → Loading Basis → Option (List ℕ) → Continuing → Type 0
+OfSaved (Some project) (accepted b) (Some bytes) continuing = Continues b project bytes continuing
+OfSaved project loading bytes continuing = Unit {0}
 
 -- 2. What the call writes and answers where nothing fails: the order of work
 
@@ -74,6 +100,7 @@ pub data LoadEnding : Type 0 where
   missing : Which → LoadEnding
   too_large : Which → ℕ → LoadEnding
   not_accepted : Refusal → LoadEnding
+  not_continued : SaveRefusal → LoadEnding
 
 -- the files were not loaded; the counts of a project were told; its script ended so; or it ran to its end, but the text of
 -- the saved run, of so many bytes, is too long
@@ -149,6 +176,25 @@ outcome_of files form loading =
     fetched which.Script script_limit (get files form.script) (λ script.
     all_of form.save (text_of_run project form.seed) (output_of p (words_of form.seed) script))))
 
+abbrev pub told_to : Continuing → (Told → Outcome) → Outcome
+told_to (rejected r) next = ends (not_continued r)
+told_to (continued t) next = next t
+
+-- the lines of a script on the world that a saved run tells, whose clock stands where it stood
+abbrev pub output_from : Basis → Told → (script : List ℕ) → Output
+output_from b t script = played b.program 1 t.run.devices.clock (world_told b t) (lines_of script)
+
+-- fetch and load the project (32 MiB), fetch and load the saved run (128 MiB), fetch the script (16 MiB), play its lines, save
+-- the run under the seed of the saved one
+abbrev pub resume_outcome : Files → ResumeForm → Loading Basis → Continuing → Outcome
+resume_outcome files form loading continuing =
+    fetched which.Project project_limit (get files form.project) (λ project.
+    loaded loading (λ b.
+    fetched which.Saved saved_limit (get files form.saved) (λ bytes.
+    told_to continuing (λ t.
+    fetched which.Script script_limit (get files form.script) (λ script.
+    all_of form.save (text_of_run project t.run.seed) (output_from b t script))))))
+
 -- `accepted T B`: T targets and B blocks
 abbrev pub accepted_line : Counts → List ℕ
 accepted_line c = line (codes "accepted" ∷ decimal c.targets ∷ decimal c.blocks ∷ [])
@@ -165,16 +211,25 @@ check_outcome files project loading = fetched which.Project project_limit (get f
 -- the name of the project file
 abbrev pub project_name : Command → List ℕ
 project_name (play form) = form.project
+project_name (resume form) = form.project
 project_name (check project) = project
 
 -- a fetch of a file that the words name has failed in this call
 abbrev pub FetchFailed : (List ℕ → ℕ) → (List ℕ → ℕ) → Command → Type 0
 FetchFailed before after (play form) = Rose (before form.project) (after form.project) ⊎ Rose (before form.script) (after form.script)
+FetchFailed before after (resume form) = Rose (before form.project) (after form.project) ⊎ (Rose (before form.saved) (after form.saved) ⊎ Rose (before form.script) (after form.script))
 FetchFailed before after (check project) = Rose (before project) (after project)
+
+-- a fetch of the saved run has failed
+abbrev pub SavedFailed : (List ℕ → ℕ) → (List ℕ → ℕ) → Command → Type 0
+SavedFailed before after (play form) = ⊥
+SavedFailed before after (resume form) = Rose (before form.saved) (after form.saved)
+SavedFailed before after (check project) = ⊥
 
 -- the name that a command saves under
 abbrev pub name_of_save : Command → Option (List ℕ)
 name_of_save (play form) = form.save
+name_of_save (resume form) = form.save
 name_of_save (check project) = None
 
 -- a put under the name has failed in this call
@@ -202,6 +257,7 @@ ending_at (limit.Save n) = unsaved n
 abbrev pub Tells : Status → Ending → Type 0
 Tells Done ending = is_whole ending ≡ true
 Tells (BadProject r) ending = ending ≡ unloaded (not_accepted r)
+Tells (BadSave r) ending = ending ≡ unloaded (not_continued r)
 Tells (BadScript r) ending = ending ≡ ran (BadLine r)
 Tells (Limit l) ending = ending ≡ ending_at l
 Tells (TooLarge file limit) ending = ending ≡ unloaded (too_large file limit)
@@ -213,24 +269,25 @@ Tells NoMemory ending = ⊥
 -- the project file is held and within its limit
 abbrev pub IsFetched : Ending → Type 0
 IsFetched (unloaded (missing which.Project)) = ⊥
-IsFetched (unloaded (missing which.Script)) = Unit {0}
 IsFetched (unloaded (too_large which.Project limit)) = ⊥
-IsFetched (unloaded (too_large which.Script limit)) = Unit {0}
-IsFetched (unloaded (not_accepted r)) = Unit {0}
-IsFetched told = Unit {0}
-IsFetched (ran ending) = Unit {0}
-IsFetched (unsaved n) = Unit {0}
+IsFetched ending = Unit {0}
 
 -- and it is accepted
 abbrev pub IsLoaded : Ending → Type 0
 IsLoaded (unloaded (missing which.Project)) = ⊥
-IsLoaded (unloaded (missing which.Script)) = Unit {0}
 IsLoaded (unloaded (too_large which.Project limit)) = ⊥
-IsLoaded (unloaded (too_large which.Script limit)) = Unit {0}
 IsLoaded (unloaded (not_accepted r)) = ⊥
-IsLoaded told = Unit {0}
-IsLoaded (ran ending) = Unit {0}
-IsLoaded (unsaved n) = Unit {0}
+IsLoaded ending = Unit {0}
+
+-- and so is the saved run, where there is one
+abbrev pub IsReady : Ending → Type 0
+IsReady (unloaded (missing which.Project)) = ⊥
+IsReady (unloaded (missing which.Saved)) = ⊥
+IsReady (unloaded (too_large which.Project limit)) = ⊥
+IsReady (unloaded (too_large which.Saved limit)) = ⊥
+IsReady (unloaded (not_accepted r)) = ⊥
+IsReady (unloaded (not_continued r)) = ⊥
+IsReady ending = Unit {0}
 
 -- a fault only where its count rose; want of memory stands in no other status
 abbrev pub FaultCause : Type 0 → Type 0 → Status → Type 0
@@ -239,23 +296,26 @@ FaultCause fetch_failed write_failed WriteFault = write_failed
 FaultCause fetch_failed write_failed Done = Unit {0}
 FaultCause fetch_failed write_failed Usage = Unit {0}
 FaultCause fetch_failed write_failed (BadProject r) = IsSome (text_of_refusal r)
+FaultCause fetch_failed write_failed (BadSave r) = IsSome (text_of_save_refusal r)
 FaultCause fetch_failed write_failed (BadScript r) = Unit {0}
 FaultCause fetch_failed write_failed (Limit l) = Unit {0}
 FaultCause fetch_failed write_failed (TooLarge file limit) = Unit {0}
 FaultCause fetch_failed write_failed NoMemory = Unit {0}
 
--- Every other status of words that have a form tells the ending. A read fault is one of the project file's, or the
--- project was loaded; want of memory is the shelf's, or the project file was fetched.
-abbrev pub AnswerCause : Type 0 → Type 0 → Ending → Status → Type 0
-AnswerCause project_failed wanted ending ReadFault = project_failed ⊎ IsLoaded ending
-AnswerCause project_failed wanted ending WriteFault = IsLoaded ending
-AnswerCause project_failed wanted ending NoMemory = wanted ⊎ IsFetched ending
-AnswerCause project_failed wanted ending Usage = ⊥
-AnswerCause project_failed wanted ending Done = Tells Done ending
-AnswerCause project_failed wanted ending (BadProject r) = Tells (BadProject r) ending
-AnswerCause project_failed wanted ending (BadScript r) = Tells (BadScript r) ending
-AnswerCause project_failed wanted ending (Limit l) = Tells (Limit l) ending
-AnswerCause project_failed wanted ending (TooLarge file limit) = Tells (TooLarge file limit) ending
+-- Every other status of words that have a form tells the ending. A read fault is one of the project file's; or the project
+-- was loaded, and it is one of the saved run's; or that was loaded too. Want of memory is the shelf's, or the project file was
+-- fetched.
+abbrev pub AnswerCause : (project_failed saved_failed wanted : Type 0) → Ending → Status → Type 0
+AnswerCause project_failed saved_failed wanted ending ReadFault = project_failed ⊎ ((saved_failed × IsLoaded ending) ⊎ IsReady ending)
+AnswerCause project_failed saved_failed wanted ending WriteFault = IsReady ending
+AnswerCause project_failed saved_failed wanted ending NoMemory = wanted ⊎ IsFetched ending
+AnswerCause project_failed saved_failed wanted ending Usage = ⊥
+AnswerCause project_failed saved_failed wanted ending Done = Tells Done ending
+AnswerCause project_failed saved_failed wanted ending (BadProject r) = Tells (BadProject r) ending
+AnswerCause project_failed saved_failed wanted ending (BadSave r) = Tells (BadSave r) ending
+AnswerCause project_failed saved_failed wanted ending (BadScript r) = Tells (BadScript r) ending
+AnswerCause project_failed saved_failed wanted ending (Limit l) = Tells (Limit l) ending
+AnswerCause project_failed saved_failed wanted ending (TooLarge file limit) = Tells (TooLarge file limit) ending
 
 -- no fetch, put or write failed in this call unless it is told
 pub record NothingFailed (fetched fetched_now put put_now : List ℕ → ℕ) (written written_now : ℕ) : Type 0 where
@@ -269,6 +329,7 @@ HidesNothing fetches fetches_now puts puts_now writes writes_now WriteFault = No
 HidesNothing fetches fetches_now puts puts_now writes writes_now Done = NothingFailed fetches fetches_now puts puts_now writes writes_now
 HidesNothing fetches fetches_now puts puts_now writes writes_now Usage = NothingFailed fetches fetches_now puts puts_now writes writes_now
 HidesNothing fetches fetches_now puts puts_now writes writes_now (BadProject r) = NothingFailed fetches fetches_now puts puts_now writes writes_now
+HidesNothing fetches fetches_now puts puts_now writes writes_now (BadSave r) = NothingFailed fetches fetches_now puts puts_now writes writes_now
 HidesNothing fetches fetches_now puts puts_now writes writes_now (BadScript r) = NothingFailed fetches fetches_now puts puts_now writes writes_now
 HidesNothing fetches fetches_now puts puts_now writes writes_now (Limit l) = NothingFailed fetches fetches_now puts puts_now writes writes_now
 HidesNothing fetches fetches_now puts puts_now writes writes_now (TooLarge file limit) = NothingFailed fetches fetches_now puts puts_now writes writes_now
@@ -287,6 +348,7 @@ Wrote old new texts NoMemory = (n : ℕ) × Gained old new (concat (take n texts
 Wrote old new texts Usage = Gained old new []
 Wrote old new texts ReadFault = Gained old new []
 Wrote old new texts (BadProject r) = Gained old new []
+Wrote old new texts (BadSave r) = Gained old new []
 Wrote old new texts (TooLarge file limit) = Gained old new []
 
 -- a status that comes before any line is played leaves nothing written, whatever is told of the files
@@ -294,6 +356,7 @@ abbrev pub IsSilent : Option (List ℕ) → Option (List ℕ) → Status → Typ
 IsSilent old new Usage = Gained old new []
 IsSilent old new ReadFault = Gained old new []
 IsSilent old new (BadProject r) = Gained old new []
+IsSilent old new (BadSave r) = Gained old new []
 IsSilent old new (TooLarge file limit) = Gained old new []
 IsSilent old new Done = Unit {0}
 IsSilent old new WriteFault = Unit {0}
@@ -311,6 +374,7 @@ counted (suc n) count = counted n (next_count count)
 -- how many files a command fetches, and how many it puts
 abbrev pub files_of : Command → ℕ
 files_of (play form) = 2
+files_of (resume form) = 3
 files_of (check project) = 1
 
 abbrev pub puts_of : Option (List ℕ) → ℕ
@@ -321,8 +385,10 @@ puts_of (Some name) = 1
 abbrev pub CallsOf : (files puts : ℕ) → Status → ℕ → Type 0
 CallsOf files puts Usage n = n ≡ 0
 CallsOf files puts (BadProject r) n = n ≡ 1
+CallsOf files puts (BadSave r) n = n ≡ 2
 CallsOf files puts (TooLarge which.Project limit) n = n ≡ 1
-CallsOf files puts (TooLarge which.Script limit) n = n ≡ 2
+CallsOf files puts (TooLarge which.Saved limit) n = n ≡ 2
+CallsOf files puts (TooLarge which.Script limit) n = n ≡ files
 CallsOf files puts Done n = n ≡ files + puts
 CallsOf files puts (BadScript r) n = n ≡ files
 CallsOf files puts (Limit l) n = n ≡ files
@@ -350,6 +416,7 @@ Writes before after put_failed texts NoMemory = (n : ℕ) × (n ≤ length texts
 Writes before after put_failed texts Usage = after ≡ before
 Writes before after put_failed texts ReadFault = after ≡ before
 Writes before after put_failed texts (BadProject r) = after ≡ before
+Writes before after put_failed texts (BadSave r) = after ≡ before
 Writes before after put_failed texts (TooLarge file limit) = after ≡ before
 
 -- 6. What the shelf holds afterwards
@@ -382,6 +449,9 @@ UnshelvedFor old new (Some command) status = IsUnshelved old new (name_of_save c
 abbrev pub Promised : Option Files → Command → (Outcome → Type 0) → Type 0
 Promised held (play form) fact =
     IfSome held (λ files. (loading : Loading Program) → OfFile Loads (get files form.project) loading → fact (outcome_of files form loading))
+Promised held (resume form) fact =
+    IfSome held (λ files. (loading : Loading Basis) → OfFile Bases (get files form.project) loading
+    → (continuing : Continuing) → OfSaved (get files form.project) loading (get files form.saved) continuing → fact (resume_outcome files form loading continuing))
 Promised held (check project) fact =
     IfSome held (λ files. (loading : Loading Counts) → OfFile Checks (get files project) loading → fact (check_outcome files project loading))
 

@@ -17,13 +17,18 @@ use Rattle.script_machine.specs.World.{World}
 use Rattle.script_machine.specs.Tasks.{Task}
 use Rattle.script_machine.specs.Output.{written, limit_line, BadLine}
 use Rattle.project_file.specs.declared.refusals.Refusal.{Refusal}
-use Rattle.player.specs.Told.{text_of_refusal}
+use Rattle.saved_rules.specs.Basis.{Basis}
+use Rattle.saved_rules.specs.Refusals.{IsAccepted, IsRefused}
+use Rattle.saved_rules.specs.RunShapes.{Told as SavedRun}
+use Rattle.saved_rules.specs.declared.refusals.SaveRefusal.{SaveRefusal}
+use Rattle.run_save.specs.Worlds.{world_told}
+use Rattle.player.specs.Told.{text_of_refusal, text_of_save_refusal}
 use Rattle.player.specs.Promise.{Loading, refused, accepted, counted, Ending, ran, is_whole, ending_at, limit_save_line}
 use Rattle.player.specs.declared.status.Limit.{Limit as LimitMet}
 use Rattle.player.specs.declared.status.Limit.TheVariants as limit
 use Rattle.player.specs.declared.status.Which.{Which}
 use Rattle.player.specs.declared.status.Status.{Status}
-use Rattle.player.specs.declared.status.Status.TheVariants.{Done, Usage, ReadFault, WriteFault, BadProject, BadScript, Limit, TooLarge, NoMemory}
+use Rattle.player.specs.declared.status.Status.TheVariants.{Done, Usage, ReadFault, WriteFault, BadProject, BadSave, BadScript, Limit, TooLarge, NoMemory}
 
 -- what a fetch answers
 abbrev pub Fetched : Option Files → List ℕ → Which → ℕ → Type 0 → Type 0 → {A : Type 0} → (A → List ℕ) → Result A Status → Type 0
@@ -35,6 +40,7 @@ Fetched held name which limit failed wanted items (Err Done) = ⊥
 Fetched held name which limit failed wanted items (Err Usage) = ⊥
 Fetched held name which limit failed wanted items (Err WriteFault) = ⊥
 Fetched held name which limit failed wanted items (Err (BadProject r)) = ⊥
+Fetched held name which limit failed wanted items (Err (BadSave r)) = ⊥
 Fetched held name which limit failed wanted items (Err (BadScript r)) = ⊥
 Fetched held name which limit failed wanted items (Err (Limit l)) = ⊥
 
@@ -48,6 +54,7 @@ FetchedSteadily before now (Err Done) = ⊥
 FetchedSteadily before now (Err Usage) = ⊥
 FetchedSteadily before now (Err WriteFault) = ⊥
 FetchedSteadily before now (Err (BadProject r)) = ⊥
+FetchedSteadily before now (Err (BadSave r)) = ⊥
 FetchedSteadily before now (Err (BadScript r)) = ⊥
 FetchedSteadily before now (Err (Limit l)) = ⊥
 
@@ -55,6 +62,7 @@ FetchedSteadily before now (Err (Limit l)) = ⊥
 abbrev pub Loaded : {A B : Type 0} → (Loading A → Type 0) → (B → A) → Result B Status → Type 0
 Loaded reads view (Ok b) = reads (accepted (view b))
 Loaded reads view (Err (BadProject r)) = IsSome (text_of_refusal r) × reads (refused r)
+Loaded reads view (Err (BadSave r)) = ⊥
 Loaded reads view (Err NoMemory) = Unit {0}
 Loaded reads view (Err Done) = ⊥
 Loaded reads view (Err Usage) = ⊥
@@ -67,6 +75,7 @@ Loaded reads view (Err (TooLarge file l)) = ⊥
 -- the status of a refused project: the refusal, unless it is want of memory
 abbrev pub RefusedAs : Refusal → Status → Type 0
 RefusedAs r (BadProject s) = (s ≡ r) × IsSome (text_of_refusal s)
+RefusedAs r (BadSave s) = ⊥
 RefusedAs r NoMemory = Unit {0}
 RefusedAs r Done = ⊥
 RefusedAs r Usage = ⊥
@@ -75,6 +84,19 @@ RefusedAs r WriteFault = ⊥
 RefusedAs r (BadScript l) = ⊥
 RefusedAs r (Limit l) = ⊥
 RefusedAs r (TooLarge file l) = ⊥
+
+-- the status of a refused saved run: the refusal, unless it is want of memory
+abbrev pub SaveRefusedAs : SaveRefusal → Status → Type 0
+SaveRefusedAs r (BadSave s) = (s ≡ r) × IsSome (text_of_save_refusal s)
+SaveRefusedAs r NoMemory = Unit {0}
+SaveRefusedAs r status = ⊥
+
+-- what the loading of a saved run answers, by the world and the seed of the run
+abbrev pub Resumed : {A : Type 0} → Basis → (digest bytes : List ℕ) → (A → World Task) → (A → ℕ) → Result A Status → Type 0
+Resumed b digest bytes world seed (Ok r) = (t : SavedRun) × IsAccepted b digest bytes t × (world r ≡ world_told b t) × (seed r ≡ t.run.seed)
+Resumed b digest bytes world seed (Err (BadSave r)) = IsSome (text_of_save_refusal r) × IsRefused b digest bytes r
+Resumed b digest bytes world seed (Err NoMemory) = Unit {0}
+Resumed b digest bytes world seed (Err status) = ⊥
 
 -- a status, and a stop, in place of an answer
 abbrev pub Told : Status → Result (Unit {0}) Status
@@ -141,6 +163,7 @@ LineEnds o (Err Done) = ⊥
 LineEnds o (Err Usage) = ⊥
 LineEnds o (Err ReadFault) = ⊥
 LineEnds o (Err (BadProject r)) = ⊥
+LineEnds o (Err (BadSave r)) = ⊥
 LineEnds o (Err (BadScript r)) = ⊥
 LineEnds o (Err (TooLarge file l)) = ⊥
 
@@ -154,6 +177,7 @@ LineWrote old new texts failed (Err Done) = ⊥
 LineWrote old new texts failed (Err Usage) = ⊥
 LineWrote old new texts failed (Err ReadFault) = ⊥
 LineWrote old new texts failed (Err (BadProject r)) = ⊥
+LineWrote old new texts failed (Err (BadSave r)) = ⊥
 LineWrote old new texts failed (Err (BadScript r)) = ⊥
 LineWrote old new texts failed (Err (TooLarge file l)) = ⊥
 
@@ -167,6 +191,7 @@ LineWrites before after texts (Err Done) = ⊥
 LineWrites before after texts (Err Usage) = ⊥
 LineWrites before after texts (Err ReadFault) = ⊥
 LineWrites before after texts (Err (BadProject r)) = ⊥
+LineWrites before after texts (Err (BadSave r)) = ⊥
 LineWrites before after texts (Err (BadScript r)) = ⊥
 LineWrites before after texts (Err (TooLarge file l)) = ⊥
 
@@ -180,6 +205,7 @@ LineSteadily before now (Err Done) = ⊥
 LineSteadily before now (Err Usage) = ⊥
 LineSteadily before now (Err ReadFault) = ⊥
 LineSteadily before now (Err (BadProject r)) = ⊥
+LineSteadily before now (Err (BadSave r)) = ⊥
 LineSteadily before now (Err (BadScript r)) = ⊥
 LineSteadily before now (Err (TooLarge file l)) = ⊥
 
@@ -193,6 +219,7 @@ PlayedTo ending failed NoMemory = Unit {0}
 PlayedTo ending failed Usage = ⊥
 PlayedTo ending failed ReadFault = ⊥
 PlayedTo ending failed (BadProject r) = ⊥
+PlayedTo ending failed (BadSave r) = ⊥
 PlayedTo ending failed (TooLarge file l) = ⊥
 
 -- the play of all lines leaves the count of failures where no write failed
@@ -205,4 +232,5 @@ PlayedSteadily before now NoMemory = now ≡ before
 PlayedSteadily before now Usage = ⊥
 PlayedSteadily before now ReadFault = ⊥
 PlayedSteadily before now (BadProject r) = ⊥
+PlayedSteadily before now (BadSave r) = ⊥
 PlayedSteadily before now (TooLarge file l) = ⊥

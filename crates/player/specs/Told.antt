@@ -7,8 +7,10 @@ use Rattle.project_file.specs.declared.refusals.Refusal.{Refusal}
 use Rattle.project_file.specs.declared.refusals.Refusal.TheVariants as refusal
 use Rattle.script_machine.specs.declared.lines.LineRefusal.{LineRefusal}
 use Rattle.script_machine.specs.declared.lines.LineRefusal.TheVariants as line_refusal
+use Rattle.saved_rules.specs.declared.refusals.SaveRefusal.{SaveRefusal}
+use Rattle.saved_rules.specs.declared.refusals.SaveRefusal.TheVariants as save_refusal
 use Rattle.player.specs.declared.status.Status.{Status}
-use Rattle.player.specs.declared.status.Status.TheVariants.{Done, Usage, ReadFault, WriteFault, BadProject, BadScript, Limit, TooLarge, NoMemory}
+use Rattle.player.specs.declared.status.Status.TheVariants.{Done, Usage, ReadFault, WriteFault, BadProject, BadSave, BadScript, Limit, TooLarge, NoMemory}
 
 -- the number of each refusal of a project; want of memory has none
 abbrev pub text_of_refusal : Refusal → Option (List ℕ)
@@ -31,6 +33,17 @@ text_of_refusal (refusal.Field at field) = Some (codes "BadProject P9")
 text_of_refusal (refusal.TooDeep at) = Some (codes "BadProject P10")
 text_of_refusal refusal.NoMemory = None
 
+-- the number of each refusal of a saved run; want of memory has none
+abbrev pub text_of_save_refusal : SaveRefusal → Option (List ℕ)
+text_of_save_refusal save_refusal.Json = Some (codes "BadSave S1")
+text_of_save_refusal (save_refusal.Shape path) = Some (codes "BadSave S2")
+text_of_save_refusal (save_refusal.Version n) = Some (codes "BadSave S3")
+text_of_save_refusal (save_refusal.OtherProject kept given) = Some (codes "BadSave S4")
+text_of_save_refusal (save_refusal.BadReference path) = Some (codes "BadSave S5")
+text_of_save_refusal (save_refusal.BadThread serial) = Some (codes "BadSave S6")
+text_of_save_refusal (save_refusal.Spelling at) = Some (codes "BadSave S7")
+text_of_save_refusal save_refusal.NoMemory = None
+
 -- the number of each refusal of a line, and the line, from 1; want of memory has none
 abbrev pub text_of_line : LineRefusal → List ℕ
 text_of_line (line_refusal.NotUtf8 line) = codes "BadScript 1 " ++ decimal line
@@ -40,7 +53,7 @@ text_of_line (line_refusal.OutOfRange line) = codes "BadScript 4 " ++ decimal li
 text_of_line (line_refusal.ClockBack line was is) = codes "BadScript 5 " ++ decimal line
 text_of_line line_refusal.NoMemory = codes "NoMemory"
 
--- the name of the status, with the number of a project's refusal, or the number of a line's refusal and the line
+-- the name of the status, with the number of a refusal of a project or a saved run, or the number of a line's refusal and the line
 abbrev pub text_of_status : Status → List ℕ
 text_of_status Done = codes "Done"
 text_of_status Usage = codes "Usage"
@@ -48,6 +61,7 @@ text_of_status ReadFault = codes "ReadFault"
 text_of_status WriteFault = codes "WriteFault"
 text_of_status (BadProject r) = unwrap_or (text_of_refusal r) (codes "NoMemory")
 text_of_status (BadScript r) = text_of_line r
+text_of_status (BadSave r) = unwrap_or (text_of_save_refusal r) (codes "NoMemory")
 text_of_status (Limit l) = codes "Limit"
 text_of_status (TooLarge file limit) = codes "TooLarge"
 text_of_status NoMemory = codes "NoMemory"
@@ -55,6 +69,10 @@ text_of_status NoMemory = codes "NoMemory"
 abbrev pub exit_of_refusal : Option (List ℕ) → ℕ
 exit_of_refusal None = 9
 exit_of_refusal (Some text) = 4
+
+abbrev pub exit_of_save_refusal : Option (List ℕ) → ℕ
+exit_of_save_refusal None = 9
+exit_of_save_refusal (Some text) = 6
 
 abbrev pub exit_of_line : LineRefusal → ℕ
 exit_of_line line_refusal.NoMemory = 9
@@ -67,6 +85,7 @@ exit_of_status ReadFault = 2
 exit_of_status WriteFault = 3
 exit_of_status (BadProject r) = exit_of_refusal (text_of_refusal r)
 exit_of_status (BadScript r) = exit_of_line r
+exit_of_status (BadSave r) = exit_of_save_refusal (text_of_save_refusal r)
 exit_of_status (Limit l) = 7
 exit_of_status (TooLarge file limit) = 8
 exit_of_status NoMemory = 9

@@ -1,7 +1,7 @@
 //! What the command's words ask for.
 
 ghost use Rattle.std.specs.Prelude.{◌≡◌, ◌^◌, ◌-◌, map, string_bytes, option_map};
-ghost use Rattle.player.specs.Command.{check_by, play_by, command_of, command_view};
+ghost use Rattle.player.specs.Command.{check_by, play_by, run_by, command_of, command_view};
 ghost use Rattle.player.specs.WholeNumbers.{whole_up_to};
 
 use crate::whole_numbers::whole_up_to;
@@ -16,6 +16,13 @@ pub enum Command<'a> {
         seed: u64,
         save: &'a str,
     },
+    /// `resume PROJECT SAVED SCRIPT SAVE`, with the word SAVE as it stands.
+    Resume {
+        project: &'a str,
+        saved: &'a str,
+        script: &'a str,
+        save: &'a str,
+    },
     /// `check PROJECT`
     Check {
         project: &'a str,
@@ -28,16 +35,38 @@ pub fn command_of(words: &[String]) -> Option<Command<'_>>
 {
     match words {
         [command, project] => checking(command.as_str(), project.as_str()),
-        [command, project, script, seed, save] => {
-            playing(
+        [command, project, second, third, save] => {
+            running(
                 command.as_str(),
                 project.as_str(),
-                script.as_str(),
-                seed.as_str(),
+                second.as_str(),
+                third.as_str(),
                 save.as_str(),
             )
         }
         _ => None,
+    }
+}
+
+#[tactic(auto, unfolding(crate::specs::Command::run_by))]
+fn running<'a>(
+    command: &str,
+    project: &'a str,
+    second: &'a str,
+    third: &'a str,
+    save: &'a str,
+) -> Option<Command<'a>>
+    ensures { option_map command_view result ≡ run_by command.now project.now second.now third.now save.now }
+{
+    if command == "resume" {
+        Some(Command::Resume {
+            project,
+            saved: second,
+            script: third,
+            save,
+        })
+    } else {
+        playing(command, project, second, third, save)
     }
 }
 

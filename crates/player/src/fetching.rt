@@ -1,15 +1,22 @@
 //! Fetching and loading the files that the words name.
 
-ghost use Rattle.std.specs.Prelude.{◌≡◌, ◌^◌, ◌<◌, length};
+ghost use Rattle.std.specs.Prelude.{◌≡◌, ◌^◌, ◌<◌, length, IfOk};
+ghost use Rattle.script_words.specs.Words.{answers};
+ghost use Rattle.saved_rules.specs.Basis.{basis_of};
+ghost use Rattle.sequencer.specs.Runs.{world_of, IsRunOf};
 ghost use Rattle.sv_channels.specs.Counts.{next_count, Rose, NoneFell, NoneRose};
 ghost use Rattle.project_check.specs.Loaded.{program_of};
-ghost use Rattle.player.specs.Promise.{Loads, Checks};
-ghost use Rattle.player.specs.Stages.{Fetched, FetchedSteadily, Loaded, RefusedAs};
+ghost use Rattle.player.specs.Promise.{Bases, Loads, Checks};
+ghost use Rattle.player.specs.Stages.{Fetched, FetchedSteadily, Loaded, RefusedAs, Resumed, SaveRefusedAs};
 
 use crate::counts::Counts;
-use crate::status::{Status, Which, refusal_name};
+use crate::status::{Status, Which, refusal_name, save_refusal_name};
 use project_check::{Project, load};
 use project_file::Refusal;
+use rand_pcg::Pcg32;
+use run_save::load as load_run;
+use saved_rules::SaveRefusal;
+use sequencer::Run;
 use std::alloc::Global;
 use sv_channels::{FetchError, Shelf};
 
@@ -49,11 +56,38 @@ fn refused(refusal: Refusal) -> Status
 // The project that the bytes of a file tell.
 pub(crate) fn load_project(alloc: Global, bytes: &[u8]) -> Result<Project, Status>
     requires { length bytes.now < 2 ^ 32 }
-    ensures { Loaded (Loads bytes.now) program_of result }
+    ensures program { Loaded (Loads bytes.now) program_of result }
+    ensures basis { Loaded (Bases bytes.now) basis_of result }
 {
     match load(alloc, bytes) {
         Ok(project) => Ok(project),
         Err(refusal) => Err(refused(refusal)),
+    }
+}
+
+// How a call ends where a saved run is refused.
+fn save_refused(refusal: SaveRefusal) -> Status
+    ensures { SaveRefusedAs refusal result }
+{
+    match save_refusal_name(&refusal) {
+        Some(_) => Status::BadSave(refusal),
+        None => Status::NoMemory,
+    }
+}
+
+// The run that a saved run of the project file with a digest tells, and the seed of its random words.
+pub(crate) fn load_saved(
+    alloc: Global,
+    project: &Project,
+    digest: &[u8; 32],
+    saved: &[u8],
+) -> Result<(Run<Pcg32>, u64), Status>
+    ensures told { Resumed (basis_of project.now) digest.now saved.now (λ r. world_of answers project.now r.0) (λ r. r.1) result }
+    ensures fits { IfOk result (λ r. IsRunOf project.now r.0) }
+{
+    match load_run(alloc, project, digest, saved) {
+        Ok(run) => Ok(run),
+        Err(refusal) => Err(save_refused(refusal)),
     }
 }
 

@@ -113,7 +113,7 @@ fn end<R: Rng + Drop, H: Shelf, K: Sink>(
 }
 
 // Plays the lines of a script on a run, the first of which has the number 1, and saves it.
-fn play_on<R: Rng + Drop, H: Shelf, K: Sink>(
+pub(crate) fn play_on<R: Rng + Drop, H: Shelf, K: Sink>(
     alloc: Global,
     project: &Project,
     run: &mut Run<R>,

@@ -1,11 +1,12 @@
 //! How a call ends.
 
 ghost use Rattle.std.specs.Prelude.{◌≡◌, IfOk, string_bytes, option_map};
-ghost use Rattle.player.specs.Told.{told_text, text_of_refusal, text_of_line, text_of_status, exit_of_line, exit_of_status};
+ghost use Rattle.player.specs.Told.{told_text, text_of_refusal, text_of_save_refusal, text_of_line, text_of_status, exit_of_line, exit_of_status};
 
 use itoa::Buffer;
 use project_file::{MutationRefusal, Refusal};
 use project_json::JsonRefusal;
+use saved_rules::SaveRefusal;
 use script_machine::LineRefusal;
 use script_words::CounterKind;
 use std::alloc::{AllocError, Global};
@@ -14,6 +15,7 @@ use std::alloc::{AllocError, Global};
 #[derive(Clone, Copy, Debug, PartialEq, Eq)]
 pub enum Which {
     Project,
+    Saved,
     Script,
 }
 
@@ -44,6 +46,8 @@ pub enum Status {
     WriteFault,
     /// The project is refused. Want of memory never stands here.
     BadProject(Refusal),
+    /// The saved run is refused. Want of memory never stands here.
+    BadSave(SaveRefusal),
     /// A line of the script is refused. Want of memory never stands here.
     BadScript(LineRefusal),
     /// The run reached a limit, whose line was written in place of a frame's text, or of saving.
@@ -81,6 +85,23 @@ pub fn refusal_name(refusal: &Refusal) -> Option<&'static str>
     }
 }
 
+/// The name that tells why a saved run is refused, with the number of the refusal, or `None` where memory ran out. The numbers
+/// S1 to S7 are those of docs/refusals.md.
+pub fn save_refusal_name(refusal: &SaveRefusal) -> Option<&'static str>
+    ensures { option_map (λ name. name.now) result ≡ text_of_save_refusal refusal.now }
+{
+    match refusal {
+        SaveRefusal::Json => Some("BadSave S1"),
+        SaveRefusal::Shape { .. } => Some("BadSave S2"),
+        SaveRefusal::Version { .. } => Some("BadSave S3"),
+        SaveRefusal::OtherProject { .. } => Some("BadSave S4"),
+        SaveRefusal::BadReference { .. } => Some("BadSave S5"),
+        SaveRefusal::BadThread { .. } => Some("BadSave S6"),
+        SaveRefusal::Spelling { .. } => Some("BadSave S7"),
+        SaveRefusal::NoMemory => None,
+    }
+}
+
 // What tells a refused line: the name with the number of the refusal and a space, before the line's number.
 fn told_line(refusal: &LineRefusal) -> (&'static str, Option<u64>)
     ensures { told_text result.0.now result.1 ≡ text_of_line refusal.now }
@@ -95,7 +116,7 @@ fn told_line(refusal: &LineRefusal) -> (&'static str, Option<u64>)
     }
 }
 
-/// What tells a status: its name, after a refused project with the number of the refusal, and after a refused line with
+/// What tells a status: its name, after a refused project or saved run with the number of the refusal, and after a refused line with
 /// the number of the refusal and a space, before the line's number.
 pub fn told(status: &Status) -> (&'static str, Option<u64>)
     ensures { told_text result.0.now result.1 ≡ text_of_status status.now }
@@ -106,6 +127,7 @@ pub fn told(status: &Status) -> (&'static str, Option<u64>)
         Status::ReadFault => ("ReadFault", None),
         Status::WriteFault => ("WriteFault", None),
         Status::BadProject(refusal) => (refusal_name(refusal).unwrap_or("NoMemory"), None),
+        Status::BadSave(refusal) => (save_refusal_name(refusal).unwrap_or("NoMemory"), None),
         Status::BadScript(refusal) => told_line(refusal),
         Status::Limit(_) => ("Limit", None),
         Status::TooLarge { .. } => ("TooLarge", None),
@@ -113,7 +135,7 @@ pub fn told(status: &Status) -> (&'static str, Option<u64>)
     }
 }
 
-/// The text that tells a status: its name, after a refused project the number of the refusal, and
+/// The text that tells a status: its name, after a refused project or saved run the number of the refusal, and
 /// after a refused line the number of the refusal and the line.
 pub fn status_text(alloc: Global, status: &Status) -> Result<String, AllocError>
     ensures { IfOk result (λ text. string_bytes text ≡ text_of_status status.now) }
@@ -154,6 +176,10 @@ pub fn exit_number(status: &Status) -> u8
             None => 9,
         },
         Status::BadScript(refusal) => line_number(refusal),
+        Status::BadSave(refusal) => match save_refusal_name(refusal) {
+            Some(_) => 6,
+            None => 9,
+        },
         Status::Limit(_) => 7,
         Status::TooLarge { .. } => 8,
         Status::NoMemory => 9,

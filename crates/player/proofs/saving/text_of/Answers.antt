@@ -1,7 +1,7 @@
 use Rattle.std.proofs.Common.{refl, subst, ◌∙◌, ap}
 use Rattle.script_words.specs.Counting.{drawn_of}
 use Rattle.saved_text.specs.Saving.{IsSaved, longest}
-use Rattle.player.proofs.SavedRun.{is_text_of_run}
+use Rattle.run_save.proofs.SavedRun.{is_text_of_run}
 use Rattle.player.proofs.saving.text_of.Goals as goal
 
 pub returns : goal.returns

@@ -21,11 +21,11 @@ returns-in-Err-load_project-clause-exact g c =
     let project = fetched_file held held form.project project_limit c.in-Ok.bytes.items c.deref.result.now refl c.deref.ensures.value c.in-Ok.ensures.answer in
     let failed = Rose (g.H.Shelf.fetch_faults c.args.shelf.now form.project) (g.H.Shelf.fetch_faults c.fetch.new.shelf form.project) in
     let wanted = Rose (g.H.Shelf.wants c.args.shelf.now) (g.H.Shelf.wants c.fetch.new.shelf) in
-    at_load Loads (after_load form) (λ (o : Outcome). AnswerCause failed wanted o.ending c.in-Err-load_project.status) held form.project c.deref.result.now project
-    (λ files loading b. refused_cause (Loads c.deref.result.now) program_of (project_reading c.deref.result.now) failed wanted c.in-Err-load_project.status (after_load form files c.deref.result.now) (loaded_fetched form files c.deref.result.now) c.in-Err-load_project.ensures loading b)
+    at_load Loads (after_load form) (λ (o : Outcome). AnswerCause failed ⊥ wanted o.ending c.in-Err-load_project.status) held form.project c.deref.result.now project
+    (λ files loading b. refused_cause (Loads c.deref.result.now) program_of (project_reading c.deref.result.now) failed ⊥ wanted c.in-Err-load_project.status (after_load form files c.deref.result.now) (loaded_fetched form files c.deref.result.now) c.in-Err-load_project.ensures.program loading b)
 
 pub returns-in-Err-load_project-clause-calls : goal.returns-in-Err-load_project-clause-calls
-returns-in-Err-load_project-clause-calls g c = (1, load_calls (Loads c.deref.result.now) program_of 2 _ c.in-Err-load_project.status (omega arith) c.in-Err-load_project.ensures, c.in-Ok.ensures.calls)
+returns-in-Err-load_project-clause-calls g c = (1, load_calls (Loads c.deref.result.now) program_of 2 _ c.in-Err-load_project.status (omega arith) c.in-Err-load_project.ensures.program, c.in-Ok.ensures.calls)
 
 -- the script is not fetched
 
@@ -40,8 +40,8 @@ returns-in-Err-fetch-clause-exact g c =
     let script_failed = Rose (g.H.Shelf.fetch_faults c.fetch.new.shelf form.script) (g.H.Shelf.fetch_faults c.fetch-2.new.shelf form.script) in
     let script_wanted = Rose (g.H.Shelf.wants c.fetch.new.shelf) (g.H.Shelf.wants c.fetch-2.new.shelf) in
     let answer = subst (λ h. Fetched h form.script which.Script script_limit script_failed script_wanted {A = Vec ℕ Global} (λ v. v.items) (Err c.in-Err-fetch.status)) c.in-Ok.ensures.held c.in-Err-fetch.ensures.answer in
-    at_accepted Loads (after_load form) (λ (o : Outcome). AnswerCause failed wanted o.ending c.in-Err-fetch.status) held form.project c.deref.result.now (program_of c.in-Ok-load_project.project) (project_reading c.deref.result.now) project c.in-Ok-load_project.ensures
-    (script_causes (Vec ℕ Global) (λ v. v.items) held form c.deref.result.now (program_of c.in-Ok-load_project.project) failed wanted script_failed script_wanted c.in-Err-fetch.status answer)
+    at_accepted Loads (after_load form) (λ (o : Outcome). AnswerCause failed ⊥ wanted o.ending c.in-Err-fetch.status) held form.project c.deref.result.now (program_of c.in-Ok-load_project.project) (project_reading c.deref.result.now) project c.in-Ok-load_project.ensures.program
+    (script_causes (Vec ℕ Global) (λ v. v.items) held form c.deref.result.now (program_of c.in-Ok-load_project.project) failed ⊥ wanted script_failed script_wanted c.in-Err-fetch.status answer)
 
 pub returns-in-Err-fetch-clause-bytes : goal.returns-in-Err-fetch-clause-bytes
 returns-in-Err-fetch-clause-bytes g c =
@@ -58,7 +58,7 @@ returns-in-Err-fetch-clause-bytes g c =
 pub returns-in-Err-fetch-clause-calls : goal.returns-in-Err-fetch-clause-calls
 returns-in-Err-fetch-clause-calls g c = (
   2,
-  script_calls _ (Vec ℕ Global) (λ v. v.items) _ _ _ _ _ c.in-Err-fetch.status c.in-Err-fetch.ensures.answer,
+  script_calls 2 (omega arith) _ (Vec ℕ Global) (λ v. v.items) _ _ _ _ _ c.in-Err-fetch.status c.in-Err-fetch.ensures.answer,
   c.in-Err-fetch.ensures.calls ∙ ap next_count c.in-Ok.ensures.calls,
 )
 
@@ -88,7 +88,7 @@ returns-clause-held g c =
 
 pub returns-clause-calls : goal.returns-clause-calls
 returns-clause-calls g c =
-    played_calls _ _ _ _ _ _ c.play_first.result c.play_first.ensures.cause (c.in-Ok-fetch.ensures.calls ∙ ap next_count c.in-Ok.ensures.calls) c.play_first.ensures.calls
+    played_calls 2 _ _ _ _ _ _ c.play_first.result c.play_first.ensures.cause (c.in-Ok-fetch.ensures.calls ∙ ap next_count c.in-Ok.ensures.calls) c.play_first.ensures.calls
 
 pub returns-clause-exact : goal.returns-clause-exact
 returns-clause-exact g c =
@@ -102,9 +102,9 @@ returns-clause-exact g c =
     let script = fetched_file _ held form.script script_limit c.in-Ok-fetch.bytes.items text c.in-Ok.ensures.held c.deref-2.ensures.value c.in-Ok-fetch.ensures.answer in
     let failed = Rose (g.H.Shelf.fetch_faults c.args.shelf.now form.project) (g.H.Shelf.fetch_faults c.play_first.new.shelf form.project) in
     let wanted = Rose (g.H.Shelf.wants c.args.shelf.now) (g.H.Shelf.wants c.play_first.new.shelf) in
-    let P : Outcome → Type 0 = λ o. AnswerCause failed wanted o.ending c.play_first.result in
-    at_accepted Loads (after_load form) P held form.project file p (project_reading file) project c.in-Ok-load_project.ensures
-    (at_end P held form file text c.digest-digest.result p (c.digest-digest.ensures ∙ ap sha256 (sym c.deref.ensures.value)) script (played_cause _ failed wanted _ c.play_first.result (all_ending save (text_from c.digest-digest.result c.args.seed) (output_of p (words_of c.args.seed) text)) c.play_first.ensures.cause))
+    let P : Outcome → Type 0 = λ o. AnswerCause failed ⊥ wanted o.ending c.play_first.result in
+    at_accepted Loads (after_load form) P held form.project file p (project_reading file) project c.in-Ok-load_project.ensures.program
+    (at_end P held form file text c.digest-digest.result p (c.digest-digest.ensures ∙ ap sha256 (sym c.deref.ensures.value)) script (played_cause _ failed ⊥ wanted _ c.play_first.result (all_ending save (text_from c.digest-digest.result c.args.seed) (output_of p (words_of c.args.seed) text)) c.play_first.ensures.cause))
 
 pub returns-clause-bytes : goal.returns-clause-bytes
 returns-clause-bytes g c =
@@ -117,7 +117,7 @@ returns-clause-bytes g c =
     let project = fetched_file held held form.project project_limit c.in-Ok.bytes.items file refl c.deref.ensures.value c.in-Ok.ensures.answer in
     let script = fetched_file _ held form.script script_limit c.in-Ok-fetch.bytes.items text c.in-Ok.ensures.held c.deref-2.ensures.value c.in-Ok-fetch.ensures.answer in
     let P : Outcome → Type 0 = λ o. Wrote (g.K.Sink.written c.args.out.now) (g.K.Sink.written c.play_first.new.out) o.texts c.play_first.result in
-    at_accepted Loads (after_load form) P held form.project file p (project_reading file) project c.in-Ok-load_project.ensures
+    at_accepted Loads (after_load form) P held form.project file p (project_reading file) project c.in-Ok-load_project.ensures.program
     (at_end P held form file text c.digest-digest.result p (c.digest-digest.ensures ∙ ap sha256 (sym c.deref.ensures.value)) script (c.play_first.ensures.bytes))
 
 pub returns-clause-writes : goal.returns-clause-writes
@@ -133,7 +133,7 @@ returns-clause-writes g c =
     let put_failed = PutFailed (g.H.Shelf.put_faults c.args.shelf.now) (g.H.Shelf.put_faults c.play_first.new.shelf) save in
     let before = put_failed_before _ _ _ _ (none_rose_behind _ _ _ c.in-Ok.ensures.put_faults c.in-Ok-fetch.ensures.put_faults) in
     let P : Outcome → Type 0 = λ o. Writes (g.K.Sink.calls c.args.out.now) (g.K.Sink.calls c.play_first.new.out) put_failed o.texts c.play_first.result in
-    at_accepted Loads (after_load form) P held form.project file p (project_reading file) project c.in-Ok-load_project.ensures
+    at_accepted Loads (after_load form) P held form.project file p (project_reading file) project c.in-Ok-load_project.ensures.program
     (at_end P held form file text c.digest-digest.result p (c.digest-digest.ensures ∙ ap sha256 (sym c.deref.ensures.value)) script (writes_cause (g.K.Sink.calls c.args.out.now) (g.K.Sink.calls c.play_first.new.out) (PutFailed (g.H.Shelf.put_faults c.fetch-2.new.shelf) (g.H.Shelf.put_faults c.play_first.new.shelf) save) put_failed (all_of save (text_from c.digest-digest.result c.args.seed) (output_of p (words_of c.args.seed) text)).texts c.play_first.result before c.play_first.ensures.writes))
 
 pub returns-clause-shelved : goal.returns-clause-shelved
@@ -150,5 +150,5 @@ returns-clause-shelved g c =
     let before = put_failed_before _ _ _ _ (none_rose_behind _ _ _ c.in-Ok.ensures.put_faults c.in-Ok-fetch.ensures.put_faults) in
     let P : Outcome → Type 0 = λ o. Shelved held (g.H.Shelf.held c.play_first.new.shelf) put_failed save o c.play_first.result in
     let same = c.in-Ok-fetch.ensures.held ∙ c.in-Ok.ensures.held in
-    at_accepted Loads (after_load form) P held form.project file p (project_reading file) project c.in-Ok-load_project.ensures
+    at_accepted Loads (after_load form) P held form.project file p (project_reading file) project c.in-Ok-load_project.ensures.program
     (at_end P held form file text c.digest-digest.result p (c.digest-digest.ensures ∙ ap sha256 (sym c.deref.ensures.value)) script (subst (λ h. Shelved h (g.H.Shelf.held c.play_first.new.shelf) put_failed save (all_of save (text_from c.digest-digest.result c.args.seed) (output_of p (words_of c.args.seed) text)) c.play_first.result) same (shelved_cause _ _ _ put_failed _ _ c.play_first.result before c.play_first.ensures.shelf)))
