@@ -222,6 +222,88 @@ fn runs_that_are_not_saved(rt: HostRuntime) -> Result<(), Fail> {
     Ok(())
 }
 
+// What `resume` answers over the base file with no blocks and this saved run, and what it leaves under the name `next`.
+fn resumed(
+    alloc: Global,
+    words: &str,
+    kept: &[u8],
+    script: &[u8],
+) -> Result<(Answer, Option<Vec<u8>>), AllocError> {
+    let base = project(alloc, "{}", "{}")?;
+    let mut files = NamedBytes::new(alloc);
+    files.push("p", base.as_bytes())?;
+    files.push("kept", kept)?;
+    files.push("s", script)?;
+    let mut shelf = MemoryShelf::new(alloc, files, Numbers::new(alloc));
+    let mut out = SteadySink::new(alloc);
+    let status = play(alloc, &words_of(alloc, words)?, &mut shelf, &mut out);
+    let next = match shelf.bytes("next") {
+        Some(bytes) => Some(bytes.to_vec(alloc)?),
+        None => None,
+    };
+    Ok((told(alloc, &status, out.written())?, next))
+}
+
+#[test]
+fn a_saved_run_is_gone_on_with(rt: HostRuntime) -> Result<(), Fail> {
+    let alloc = rt.alloc();
+    let (answer, next) = resumed(
+        alloc,
+        "resume p kept s next",
+        SAVED.as_bytes(),
+        b"frame 40 1 0\n",
+    )?;
+    is_told(
+        &rt,
+        &answer,
+        "Done",
+        0,
+        frame_at(alloc, 3, 40, "0")?.as_bytes(),
+    );
+    let clock = SAVED.replace(alloc, "\"clock\":0", "\"clock\":40")?;
+    let after = clock.replace(alloc, "\"frame\":2", "\"frame\":3")?;
+    assert_eq!(rt; next.as_deref(), Some(after.as_bytes()));
+    Ok(())
+}
+
+#[test]
+fn saved_runs_that_are_refused(rt: HostRuntime) -> Result<(), Fail> {
+    let rows = [
+        ("{\"answer\"", "[\"answer\"", "BadSave S1"),
+        ("\"frame\":2", "\"frame\":-2", "BadSave S2"),
+        ("\"version\":1", "\"version\":2", "BadSave S3"),
+        ("bc2740", "ac2740", "BadSave S4"),
+        ("\"frame\":2", "\"frame\":4611686018427387904", "BadSave S5"),
+        ("{\"answer\"", " {\"answer\"", "BadSave S7"),
+    ];
+    for (from, to, text) in rows {
+        let edited = SAVED.replace(rt.alloc(), from, to)?;
+        let (answer, next) = resumed(
+            rt.alloc(),
+            "resume p kept s next",
+            edited.as_bytes(),
+            TWO_FRAMES,
+        )?;
+        is_told(&rt, &answer, text, 6, b"");
+        assert_eq!(rt; next.is_none(), true);
+    }
+    Ok(())
+}
+
+#[test]
+fn a_clock_that_goes_back_behind_a_saved_run(rt: HostRuntime) -> Result<(), Fail> {
+    let later = SAVED.replace(rt.alloc(), "\"clock\":0", "\"clock\":9")?;
+    let (answer, next) = resumed(
+        rt.alloc(),
+        "resume p kept s next",
+        later.as_bytes(),
+        b"frame 8 1 0\n",
+    )?;
+    is_told(&rt, &answer, "BadScript 5 1", 5, b"");
+    assert_eq!(rt; next.is_none(), true);
+    Ok(())
+}
+
 #[test]
 fn an_empty_script_and_an_unknown_line(rt: HostRuntime) -> Result<(), Fail> {
     let base = project(rt.alloc(), "{}", "{}")?;
@@ -375,7 +457,7 @@ static NO_FORMS: [&str; 16] = [
     "play p s 1",
     "play p s 1 - -",
     "Play p s 1 -",
-    "resume p s 1 -",
+    "Resume p kept s -",
     "play p s 01 -",
     "play p s -1 -",
     "play p s +1 -",
