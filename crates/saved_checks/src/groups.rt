@@ -10,7 +10,7 @@ ghost use Rattle.saved_checks.specs.Groups.{broken_in};
 
 use crate::broken::first_broken;
 use crate::counting::{are_few, have_few_levels, is_next, timers_were_updated, were_updated};
-use crate::devices::{are_held, are_next, is_in_time, is_on_stage, was_reset};
+use crate::device_rules::{are_held, are_next, is_in_time, is_on_stage, was_reset};
 use crate::lengths::{ask_briefly, have_little_to_say, have_short_lists, is_value_text};
 use crate::levels::{have_given, have_short_params};
 use crate::live_targets::LiveTargets;

@@ -4,7 +4,7 @@
 mod broken;
 mod checking;
 mod counting;
-mod devices;
+mod device_rules;
 mod distinct;
 mod groups;
 mod hat_blocks;
