@@ -8,3 +8,6 @@ mod telling;
 mod threads;
 
 pub use loading::load;
+
+#[cfg(test)]
+mod tests;
