@@ -1,8 +1,7 @@
 //! The threads of a saved run, made again.
 
-ghost use Rattle.std.specs.Prelude.{◌≡◌, true, map, IsSome};
-ghost use Rattle.std.specs.List.{list_all, All};
-ghost use Rattle.script_machine.specs.Stores.{live};
+ghost use Rattle.std.specs.Prelude.{◌≡◌, map};
+ghost use Rattle.std.specs.List.{All};
 ghost use Rattle.saved_levels.specs.Waits.{TellsOf};
 ghost use Rattle.saved_parts.specs.Telling.{thread_of};
 ghost use Rattle.saved_rules.specs.RunShapes.{Told};
