@@ -1,0 +1,9 @@
+pub mod Lists
+pub mod Scripts
+pub mod Positions
+pub mod Instances
+pub mod Promises
+pub mod Threads
+pub mod Worlds
+pub mod Frames
+pub mod Laws
