@@ -1,5 +1,4 @@
 """Saved runs of the cases and samples: each is played to somewhere in its middle, and saved there."""
-import copy
 import json
 import os
 import re
@@ -9,7 +8,7 @@ import subprocess
 from parts.projects import Project
 
 # a longer saved run is left out: it would only take longer to edit
-LONGEST = 200000
+LONGEST = 10000
 # a number or another piece of JSON text that is to stand in the text just so
 AS_IT_IS = re.compile('"@@(.*?)@@"')
 
@@ -34,7 +33,7 @@ class Save:
         self.kept = json.loads(data)
 
     def tree(self):
-        return copy.deepcopy(self.kept)
+        return json.loads(self.data)
 
 
 def call(player, folder, *words):

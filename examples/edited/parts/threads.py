@@ -1,5 +1,6 @@
 """The rows of S6: the rules on a thread, each broken on threads that keep it."""
 import copy
+import json
 
 from parts.rules import target_of
 from parts.shapes import on_tree
@@ -45,8 +46,9 @@ class At:
 def thread_row(rule, told, what, edit):
     """An edit of the first thread that can be edited so."""
     def first(t, s):
+        text = json.dumps(t)
         for at in range(len(t['threads'])):
-            tried = copy.deepcopy(t)
+            tried = json.loads(text)
             try:
                 done = edit(At(tried, s, tried['threads'][at]))
             except (IndexError, KeyError, StopIteration):
@@ -161,7 +163,7 @@ broken('the top: glide', 'began a millisecond behind the clock', lambda a: top_o
 broken('the top: glide', 'began at 2^64 - 1', lambda a: top_of(a, 'glide', ['glide', 2 ** 64 - 1, 1000000, 0, 0, 0, 0]))
 for status in ('run', 'tick', 'wait'):
     broken('the top: starts', 'the started ones emptied, with %s' % status, lambda a, status=status: top_of(a, 'starts', ['started', []], status))
-broken('the top: starts', 'the started ones emptied where it waits', lambda a: a.levels[-1][1][0] == 'started' and a.levels[-1][1][1].clear() is None)
+broken('the top: starts', 'the started ones emptied where it waits', lambda a: ticks(a) and a.levels[-1][1][1].clear() is None)
 for status in ('run', 'tick'):
     kept('the top: starts', 'a thread twice, with %s' % status, lambda a, status=status: a.tree['next'][0] > 0 and top_of(a, 'starts', ['started', [0, 0]], status))
 
