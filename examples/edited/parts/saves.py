@@ -36,8 +36,8 @@ class Save:
         return json.loads(self.data)
 
 
-def call(player, folder, *words):
-    return subprocess.run([player, *words], cwd=folder, stdin=subprocess.DEVNULL, stdout=subprocess.PIPE, stderr=subprocess.PIPE, timeout=10)
+def call(player, folder, *words, seconds=10):
+    return subprocess.run([player, *words], cwd=folder, stdin=subprocess.DEVNULL, stdout=subprocess.PIPE, stderr=subprocess.PIPE, timeout=seconds)
 
 
 def read(path):
@@ -86,7 +86,7 @@ def saves_of(player, room, source):
             f.write(script)
         if os.path.isfile(kept):
             os.remove(kept)
-        done = call(player, place, 'play', 'project.json', 'script.txt', seed, 'kept')
+        done = call(player, place, 'play', 'project.json', 'script.txt', seed, 'kept', seconds=100)
         if done.returncode == 0 and os.path.getsize(kept) <= LONGEST and read(kept) not in seen:
             seen.add(read(kept))
             found.append(Save('%s, %s' % (name, what), Project(data), read(kept)))

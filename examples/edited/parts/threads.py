@@ -2,7 +2,7 @@
 import copy
 import json
 
-from parts.rules import target_of
+from parts.rules import MIB, target_of
 from parts.shapes import on_tree
 from parts.table import ACCEPTED, row
 
@@ -43,7 +43,7 @@ class At:
         self.thread['status'] = 'run'
 
 
-def thread_row(rule, told, what, edit):
+def thread_row(rule, told, what, edit, number='S6'):
     """An edit of the first thread that can be edited so."""
     def first(t, s):
         text = json.dumps(t)
@@ -57,7 +57,7 @@ def thread_row(rule, told, what, edit):
                 t.update(tried)
                 return True
         return False
-    row('S6 ' + rule, told, what, on_tree(first))
+    row('%s %s' % (number, rule), told, what, on_tree(first))
 
 
 def broken(rule, what, edit):
@@ -126,12 +126,38 @@ CONTEXTS = {
 KEEPS = {'endless': 'loop', 'counted': 'repeat', 'wait': 'wait', 'glide': 'glide', 'ask': 'asked', 'speak': 'spoken', 'call': 'call'}
 
 
+def marks(a, block):
+    """What a block keeps under another level, and the definition that it calls; nothing where it cannot be under one."""
+    called = a.target.called(block)
+    if called:
+        return [['call', [[name, ''] for name in called[1]]]], called[0]
+    return {'choice': [None], 'endless': [['loop']], 'counted': [['repeat', 1]]}.get(a.kind(block), []), None
+
+
+def way(a, kind, script, under, called):
+    """The levels up to the first block of a kind that is in a script or over one of its blocks; nothing where there is none."""
+    for block in script:
+        if a.kind(block) == kind:
+            return under + [[block, None]]
+    for block in script:
+        for mark, definition in [(mark, marks(a, block)[1]) for mark in marks(a, block)[0]]:
+            found = definition not in called and way(a, kind, a.target.over(block), under + [[block, mark]], called + ([definition] if definition is not None else []))
+            if found:
+                return found
+    return []
+
+
 def top_of(a, kind, context, status='run'):
-    """Puts the first block of a kind that may stand on top there, keeping a context; so also runs that stand elsewhere are edited."""
+    """Puts the first block of a kind on top that may stand there, or another way over the script, keeping a context; so also runs
+    that stand elsewhere are edited."""
     if a.is_named():
         return False
-    block = next(n for n in a.allowed(len(a.levels) - 1) if a.kind(n) == kind)
-    a.levels[-1][:] = [block, context]
+    blocks = [n for n in a.allowed(len(a.levels) - 1) if a.kind(n) == kind]
+    if blocks:
+        a.levels[-1] = [blocks[0], context]
+    else:
+        a.levels[:] = way(a, kind, a.script, [], [])
+        a.levels[-1][1] = context
     a.thread['status'] = status
     return True
 
@@ -179,11 +205,9 @@ def with_params(a, names):
 
 def called_on_top(a):
     """The names of the procedure that the first call there calls."""
-    block = next(n for n in a.allowed(len(a.levels) - 1) if a.kind(n) == 'call')
-    called = a.target.called(block)
-    if called is None:
+    if not top_of(a, 'call', None) or a.target.called(a.levels[-1][0]) is None:
         raise StopIteration
-    return called[1]
+    return a.target.called(a.levels[-1][0])[1]
 
 
 def params(what, change, fits=lambda names: True):
@@ -213,6 +237,13 @@ for word, context in CONTEXTS.items():
     if word != 'call':
         broken('the top: call', 'keeps %s' % word, lambda a, word=word, context=context: top_of(a, 'call', context, 'wait' if word in ('asked', 'spoken') else 'run'))
 kept('the top: call', 'keeps nothing', lambda a: top_of(a, 'call', None))
+
+# a rule of S5, on calls that are put there
+for text, told in (('a' * (MIB + 1), 'S5'), ('\u00e9' * (MIB // 2) + '"', 'S5'), ('a' * MIB, ACCEPTED)):
+    def with_text(a, text=text):
+        names = called_on_top(a)
+        return names and with_params(a, names) and a.levels[-1][1][1][-1].__setitem__(1, text) is None
+    thread_row('text of parameters', told, '%d bytes, of a call that is put there' % len(text.encode()), lambda a, edit=with_text: bool(edit(a)), 'S5')
 
 # the status
 
