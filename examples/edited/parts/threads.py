@@ -53,7 +53,7 @@ def thread_row(rule, told, what, edit, number='S6'):
                 done = edit(At(tried, s, tried['threads'][at]))
             except (IndexError, KeyError, StopIteration):
                 continue
-            if done is not False:
+            if done is None or done:
                 t.update(tried)
                 return True
         return False
