@@ -1,0 +1,1 @@
+"""Saved runs, and the table of their edits."""
