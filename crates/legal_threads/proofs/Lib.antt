@@ -30,3 +30,4 @@ pub mod Framing
 pub mod Lines
 pub mod First
 pub mod Depths
+pub mod Keeping

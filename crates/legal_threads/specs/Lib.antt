@@ -7,3 +7,6 @@ pub mod Threads
 pub mod Worlds
 pub mod Frames
 pub mod Laws
+pub mod Statements
+pub mod GoodLines
+pub mod Playable

@@ -1,0 +1,2 @@
+//! Laws of the machine. There is no code here.
+#![tactic(auto)]
