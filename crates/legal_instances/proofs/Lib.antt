@@ -6,3 +6,6 @@ pub mod Looks
 pub mod Bubbles
 pub mod MotionRows
 pub mod Layers
+pub mod LooksRows
+pub mod ControlsRows
+pub mod RowsKeep
