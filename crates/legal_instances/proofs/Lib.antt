@@ -9,3 +9,4 @@ pub mod Layers
 pub mod LooksRows
 pub mod ControlsRows
 pub mod RowsKeep
+pub mod Clones
