@@ -1,12 +1,12 @@
 -- Updates of bubbles keep the instances of a scene legal.
-use Rattle.std.proofs.Common.{◌≡◌, ℕ, ◌+◌, ◌<◌, Bool, true, false, if◌then◌else◌, List, [], ◌∷◌, is_some, refl, arith}
+use Rattle.std.proofs.Common.{ℕ, ◌+◌, Bool, true, false, if◌then◌else◌, List, [], ◌∷◌, is_some, refl, arith}
 use Rattle.script_words.specs.declared.stops.CounterKind.TheVariants as counter
 use Rattle.script_machine.specs.declared.bubble.Say.{Say}
 use Rattle.script_machine.specs.declared.bubble.Say.TheVariants as say
 use Rattle.script_machine.specs.declared.devices.Question.{Question}
 use Rattle.script_machine.specs.BubbleText.{cut}
 use Rattle.script_machine.specs.ControlRows.{question_shown}
-use Rattle.script_machine.specs.Outcome.{Goes, IfGoes, then_do, with_number}
+use Rattle.script_machine.specs.Outcome.{Goes, IfGoes, with_number}
 use Rattle.script_machine.specs.Parts.{Scene, bubble_set, bubble_updated}
 use Rattle.script_machine.specs.Program.{Program}
 use Rattle.script_machine.specs.Stopping.{bubble_emptied, first_taken, is_first_of, without_questions, questions_dropped}

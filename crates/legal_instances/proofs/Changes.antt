@@ -1,5 +1,5 @@
 -- What stays true of each element of a list, of its first one and of its length, where the list is changed.
-use Rattle.std.proofs.Common.{◌≡◌, ℕ, zero, suc, ◌+◌, ◌==◌, ◌<◌, ◌≤◌, Bool, true, false, List, [], ◌∷◌, ◌++◌, map, filter, take, drop, length, Option, Some, None, refl, sym, ap, ◌∙◌, subst, cond, arith}
+use Rattle.std.proofs.Common.{◌≡◌, ℕ, zero, suc, ◌≤◌, Bool, true, false, List, [], ◌∷◌, map, filter, take, drop, length, Option, Some, None, refl, ap, ◌∙◌, subst, cond, arith}
 use Rattle.std.specs.Prelude.{slice_get, slice_set, insert, remove, find, position, nat_lt, IsSomeAnd}
 use Rattle.std.specs.List.{position_or_len}
 use Rattle.std.proofs.lemmas.List.Folds.{find_at}

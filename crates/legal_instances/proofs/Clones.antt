@@ -1,6 +1,6 @@
 -- Instances that are gone, new or renewed: the others stay legal, and the stage stays first.
 use Rattle.std.proofs.Common.{◌≡◌, ℕ, zero, suc, ◌+◌, ◌<◌, ◌≤◌, ◌==◌, Bool, true, false, not, ◌||◌, cond, if◌then◌else◌, List, [], ◌∷◌, ◌++◌, map, filter, length, Option, Some, None, inl, inr, ◌⊎◌, refl, sym, ap, ◌∙◌, subst, arith}
-use Rattle.std.specs.Prelude.{slice_get, find, position, nat_lt, unwrap_or}
+use Rattle.std.specs.Prelude.{slice_get, find, position, nat_lt}
 use Rattle.std.specs.List.{position_or_len}
 use Rattle.std.proofs.lemmas.List.Folds.{find_at}
 use Rattle.std.proofs.lemmas.List.Quantifiers.{position-Some}
@@ -13,17 +13,14 @@ use Rattle.script_machine.specs.Lists.{removed_at, first_removed}
 use Rattle.script_machine.specs.Program.{Program, Records, hat_block}
 use Rattle.script_machine.specs.Starting.{Pair}
 use Rattle.script_machine.specs.Stopping.{is_clone, cleared, most_clones, copied, inserted_behind, placed_behind}
-use Rattle.script_machine.specs.Stores.{no_bubble, live, instance_at, on_instance, is_on_stage}
-use Rattle.script_machine.specs.Tasks.{Task}
-use Rattle.script_machine.specs.World.{World}
+use Rattle.script_machine.specs.Stores.{live, instance_at, is_on_stage}
 use Rattle.legal_threads.specs.Instances.{Hosts, Inhabited}
 use Rattle.legal_threads.specs.Lists.{Each}
 use Rattle.legal_threads.proofs.Disposing.{clone_not, original_not}
-use Rattle.legal_threads.proofs.Faces.{found, hosts_one, hosts_right}
-use Rattle.legal_threads.proofs.Keeping.{IsEdge}
+use Rattle.legal_threads.proofs.Faces.{found, hosts_right}
 use Rattle.legal_threads.proofs.Numbers.{clash, each_append, each_filter, equal, equal_true}
 use Rattle.legal_instances.specs.Instances.{IsOriginal, IsClone, IsEdgeHat, IsInstance}
-use Rattle.legal_instances.proofs.Casts.{IsCast, found_at, cast_changed}
+use Rattle.legal_instances.proofs.Casts.{IsCast, found_at}
 use Rattle.legal_instances.proofs.Changes.{Heads, each_found, each_removed, head_map, length_map, each_mapped, length_filter}
 use Rattle.legal_instances.proofs.Layers.{length_remove}
 use Rattle.legal_instances.proofs.Looks.{said, coloured, edged, none_set, noted_rise, noted_each}
@@ -52,7 +49,7 @@ module _ {A : Type 0} (P : A → Type 0) where
   head_append [] ys h = absurd h
   head_append (x ∷ xs) ys h = h
 
-  heads_both : (Q : A → Type 0) (xs : List A) → Heads P xs → Each Q xs → Heads (λ x. P x × Q x) xs
+  pub heads_both : (Q : A → Type 0) (xs : List A) → Heads P xs → Each Q xs → Heads (λ x. P x × Q x) xs
   heads_both Q [] h g = absurd h
   heads_both Q (x ∷ xs) h g = (h, g.0)
 
@@ -60,7 +57,7 @@ module _ {A : Type 0} (P : A → Type 0) where
   heads_weaker Q [] f h = absurd h
   heads_weaker Q (x ∷ xs) f h = f x h
 
-got_below : {A : Type 0} (xs : List A) (k : ℕ) (x : A) → slice_get xs k ≡ Some x → k < length xs
+pub got_below : {A : Type 0} (xs : List A) (k : ℕ) (x : A) → slice_get xs k ≡ Some x → k < length xs
 got_below [] k x e = absurd (cc e)
 got_below (y ∷ ys) zero x e = omega arith
 got_below (y ∷ ys) (suc k) x e = let b = got_below ys k x e in omega (arith, b)
@@ -88,9 +85,9 @@ removed_most test xs = removed_most_by xs (position_or_len test xs) (nat_lt (pos
 
 -- The stage has the number of its target
 
-kind_below : (p : Program) (usage : ℕ) (i : Instance) → IsOriginal p.records i ⊎ IsClone p.records i → is_on_stage i p.records ≡ true → i.number < length p.records.targets
-kind_below p usage i (inl o) s = let e = o.0 in let b = o.1 in omega (arith, e, b)
-kind_below p usage i (inr c) s = absurd (clash (is_on_stage i p.records) s c.1)
+kind_below : (p : Program) (i : Instance) → IsOriginal p.records i ⊎ IsClone p.records i → is_on_stage i p.records ≡ true → i.number < length p.records.targets
+kind_below p i (inl o) s = let e = o.0 in let b = o.1 in omega (arith, e, b)
+kind_below p i (inr c) s = absurd (clash (is_on_stage i p.records) s c.1)
 
 kind_of : (records : Records) (i : Instance) → IsOriginal records i ⊎ IsClone records i → i.of < length records.targets
 kind_of records i (inl o) = o.1
@@ -104,7 +101,7 @@ abbrev IsStage : Program → ℕ → Instance → Type 0
 IsStage p usage i = OnStage p i × IsInstance p usage i
 
 stage_below : (p : Program) (usage : ℕ) (i : Instance) → IsStage p usage i → i.number < length p.records.targets
-stage_below p usage i h = kind_below p usage i h.1.kind h.0
+stage_below p usage i h = kind_below p i h.1.kind h.0
 
 module _ (p : Program) (usage : ℕ) (is : List Instance) (h : IsCast p usage is) where
   stage_heads : Heads (IsStage p usage) is
@@ -209,7 +206,7 @@ module _ (p : Program) (usage next original target : ℕ) (is : List Instance) (
       let x_off : is_on_stage r.x p.records ≡ false = ap (λ i. is_on_stage i p.records) (sym at) ∙ off in
       let x_legal : IsInstance p usage r.x = each_found (IsInstance p usage) (λ i. i.number == original) is r.x r.is_it h.each in
       let copy_legal : IsInstance p usage (copied next (instance_at original is)) =
-          copied_legal p usage next (instance_at original is) (next_by p.records next (length p.records.targets) is refl inhabited) off (subst (IsInstance p usage) (sym at) x_legal) in
+      copied_legal p usage next (instance_at original is) (next_by p.records next (length p.records.targets) is refl inhabited) off (subst (IsInstance p usage) (sym at) x_legal) in
       let each : Each (IsInstance p usage) js = each_append (IsInstance p usage) is (copied next (instance_at original is) ∷ []) h.each (copy_legal, tt) in
       let c = found next (instance_at original is).of js (hosts_right next (instance_at original is).of is (copied next (instance_at original is) ∷ []) (inl (refl, refl))) in
       let rest : List Instance = first_removed (λ i. i.number == next) js in
@@ -232,7 +229,7 @@ has_room n most c e = let r = room_by (nat_lt n most) c e in ((Decides-ltb n mos
 
 -- An edge value that is noted
 
-module _ (p : Program) (usage : ℕ) (w : World Task) (x : Pair) (v : Bool) (h : IsCast p usage w.targets) where
-  noted_edge : (target : ℕ) (i : Instance) → i.of ≡ target → IsEdgeHat p target (hat_block x.head) → IsInstance p usage i → IsInstance p usage (record i { edges = with_edge (hat_block x.head) v i.edges })
+module _ (p : Program) (usage : ℕ) (x : Pair) (v : Bool) where
+  pub noted_edge : (target : ℕ) (i : Instance) → i.of ≡ target → IsEdgeHat p target (hat_block x.head) → IsInstance p usage i → IsInstance p usage (record i { edges = with_edge (hat_block x.head) v i.edges })
   noted_edge target i e g h = edged p usage i h (with_edge (hat_block x.head) v i.edges) (noted_rise (hat_block x.head) v i.edges h.rising)
       (noted_each (hat_block x.head) v (IsEdgeHat p i.of) i.edges (subst (λ k. IsEdgeHat p k (hat_block x.head)) (sym e) g) h.edges)

@@ -1,20 +1,18 @@
 -- Which costume a value names.
-use Rattle.std.proofs.Common.{◌≡◌, ℕ, zero, suc, ◌+◌, ◌-◌, ◌*◌, ◌/◌, ◌%◌, ◌^◌, ◌<◌, ◌≤◌, ◌==◌, Bool, true, false, if◌then◌else◌, List, length, Option, Some, None, refl, sym, subst, ap, arith}
-use Rattle.std.specs.Prelude.{ℤ, pos, negsuc, ◌+ℤ◌, ◌-ℤ◌, ◌*ℤ◌, unsigned_abs, IfSome, nat_le}
+use Rattle.std.proofs.Common.{◌≡◌, ℕ, zero, suc, ◌+◌, ◌-◌, ◌*◌, ◌/◌, ◌%◌, ◌^◌, ◌<◌, ◌==◌, Bool, true, false, if◌then◌else◌, List, length, Option, Some, None, refl, sym, subst, arith}
+use Rattle.std.specs.Prelude.{ℤ, pos, negsuc, ◌+ℤ◌, ◌*ℤ◌, IfSome, nat_le}
 use Rattle.std.proofs.lemmas.Int.{ints}
 use Rattle.std.proofs.lemmas.Bool.Decides.{nat_tests}
 use Rattle.std.proofs.lemmas.Nat.{mod_below, div-add-mod', mul-le}
-use Rattle.std.proofs.Math.Nat.{div-lt_iff_lt-mul}
 use Rattle.scratch_number.specs.declared.number.Num.{Num}
 use Rattle.scratch_number.specs.declared.number.Num.TheVariants.{Fixed, Inf, NegInf, Nan}
 use Rattle.scratch_number.specs.Number.{number, floor_quotient}
 use Rattle.scratch_number.specs.Arithmetic.{million, remainder, finite_modulo, modulo, round}
 use Rattle.scratch_number.proofs.Remainders.{number-small}
 use Rattle.scratch_values.specs.declared.value.Value.{Value}
-use Rattle.script_machine.specs.Costume.{Choice, Stays, To, Another, choice, whole_index, costume_index, skipping, another, chosen, switched}
-use Rattle.script_machine.specs.Numbers.{whole}
+use Rattle.script_machine.specs.Costume.{Choice, Stays, To, Another, choice, whole_index, costume_index, skipping, chosen, switched}
 use Rattle.script_machine.specs.Outcome.{IfGoes, then_do}
-use Rattle.script_machine.specs.Words.{Words, Drawn, undrawn, made_of, draw}
+use Rattle.script_machine.specs.Words.{Words, undrawn, made_of, draw}
 use Rattle.legal_threads.proofs.RowFits.{goes_then}
 
 -- a remainder by a divisor above 0 is from 0 to below it

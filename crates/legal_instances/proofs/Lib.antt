@@ -7,6 +7,9 @@ pub mod Bubbles
 pub mod MotionRows
 pub mod Layers
 pub mod LooksRows
-pub mod ControlsRows
+pub mod ControlRows
 pub mod RowsKeep
 pub mod Clones
+pub mod First
+pub mod Kept
+pub mod Anything

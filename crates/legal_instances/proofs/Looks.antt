@@ -1,6 +1,6 @@
 -- What the looks, the place, the bubble and the edge values of a legal instance may become.
-use Rattle.std.proofs.Common.{◌≡◌, ℕ, zero, suc, ◌+◌, ◌<◌, ◌==◌, ◌≤◌, Bool, true, false, cond, if◌then◌else◌, List, [], ◌∷◌, map, length, Option, Some, None, inl, inr, refl, sym, ap, ◌∙◌, subst, arith}
-use Rattle.std.specs.Prelude.{slice_get, slice_set, slice_index_or, pos, negsuc, ℤ, int_le, IsSomeAnd, position, bytes_eq, nat_lt}
+use Rattle.std.proofs.Common.{◌≡◌, ℕ, zero, suc, ◌<◌, ◌==◌, Bool, true, false, if◌then◌else◌, List, [], ◌∷◌, map, length, Some, refl, sym, ap, ◌∙◌, subst, arith}
+use Rattle.std.specs.Prelude.{slice_get, slice_set, slice_index_or, pos, negsuc, ℤ, IsSomeAnd, position, bytes_eq, nat_lt}
 use Rattle.std.proofs.Math.ListN.{length-set}
 use Rattle.std.proofs.lemmas.Bool.Decides.{nat_tests}
 use Rattle.std.proofs.lemmas.List.Quantifiers.{position-Some}
@@ -13,8 +13,8 @@ use Rattle.script_machine.specs.declared.instance.Instance.{Instance}
 use Rattle.script_machine.specs.declared.instance.Style.{Style}
 use Rattle.script_machine.specs.Effects.{effect_names, no_effects}
 use Rattle.script_machine.specs.Frame.{with_edge}
-use Rattle.script_machine.specs.Looks.{effect_named, effect_kept, with_effect, with_size, size_kept}
-use Rattle.script_machine.specs.Program.{Program, Head, hat_block, scripts_at}
+use Rattle.script_machine.specs.Looks.{effect_named, effect_kept, size_kept}
+use Rattle.script_machine.specs.Program.{Program}
 use Rattle.script_machine.specs.Stores.{is_on_stage, record_of}
 use Rattle.legal_threads.specs.Lists.{Each, Rise, RiseAbove}
 use Rattle.legal_threads.specs.Playable.{IsBetween, IsSize, IsDirection}

@@ -1,6 +1,6 @@
 -- The rows of looks keep instances legal.
-use Rattle.std.proofs.Common.{◌≡◌, ℕ, ◌+◌, ◌-◌, ◌%◌, ◌^◌, ◌<◌, ◌==◌, Bool, true, false, if◌then◌else◌, List, [], ◌∷◌, length, Option, Some, None, option_map, refl, sym, ap, ◌∙◌, subst, arith}
-use Rattle.std.specs.Prelude.{pos, codes, slice_get, slice_index_or, unwrap_or, bytes_eq}
+use Rattle.std.proofs.Common.{◌≡◌, ℕ, ◌+◌, ◌^◌, ◌<◌, ◌==◌, Bool, true, false, if◌then◌else◌, List, length, Option, Some, None, option_map, refl, sym, ap, ◌∙◌, subst, arith}
+use Rattle.std.specs.Prelude.{pos, codes, slice_get, slice_index_or, unwrap_or}
 use Rattle.std.proofs.lemmas.Nat.{mod_below}
 use Rattle.opcode_table.specs.declared.opcode.Opcode.{Opcode}
 use Rattle.opcode_table.specs.declared.opcode.Opcode.TheVariants.{LooksSay, LooksThink, LooksSayForSecs, LooksThinkForSecs, LooksSwitchCostumeTo, LooksNextCostume, LooksSwitchBackdropTo, LooksSwitchBackdropToAndWait, LooksNextBackdrop, LooksChangeSizeBy, LooksSetSizeTo, LooksChangeEffectBy, LooksSetEffectTo, LooksClearGraphicEffects, LooksShow, LooksHide, LooksGoToFrontBack, LooksGoForwardBackwardLayers}
@@ -16,21 +16,20 @@ use Rattle.script_machine.specs.declared.records.TargetRecord.{TargetRecord}
 use Rattle.script_machine.specs.declared.threads.Context.{Context}
 use Rattle.script_machine.specs.declared.threads.Context.TheVariants.{Started}
 use Rattle.script_machine.specs.Effects.{no_effects}
-use Rattle.script_machine.specs.Looks.{effect_named, effect_kept, with_effect, with_size, size_kept, layer, at_layer, layer_after, forward_by, front_or_back, last_layer, goes_on, own, changed, looks_by, on_sprite, effect_set, layered, spoken, shown_bubble, timed_bubble, with_costume, next_costume, switched_to, backdrop_hats, with_backdrop, backdrop_switched, backdrop_and_wait, looks_row, with_words}
-use Rattle.script_machine.specs.Outcome.{Goes, IfGoes, then_do}
+use Rattle.script_machine.specs.Looks.{effect_named, with_effect, with_size, size_kept, layer, layer_after, forward_by, front_or_back, last_layer, goes_on, own, changed, looks_by, on_sprite, effect_set, layered, spoken, shown_bubble, timed_bubble, with_costume, next_costume, switched_to, with_backdrop, backdrop_switched, backdrop_and_wait, looks_row, with_words}
+use Rattle.script_machine.specs.Outcome.{Goes, IfGoes}
 use Rattle.script_machine.specs.Parts.{Scene, LooksParts, bubble_updated}
 use Rattle.script_machine.specs.Program.{Program, no_target, stage_number}
-use Rattle.script_machine.specs.Stores.{live, instance_at, is_on_stage, record_of}
+use Rattle.script_machine.specs.Stores.{live, is_on_stage, record_of}
 use Rattle.script_machine.specs.Texts.{bubble_text}
 use Rattle.script_machine.specs.Threads.{Listed}
 use Rattle.script_machine.specs.View.{Row, value_at, number_at, field_at}
 use Rattle.script_machine.specs.Words.{Words, draw}
-use Rattle.legal_threads.specs.Instances.{Hosts, Inhabited}
 use Rattle.legal_threads.specs.Playable.{IsTarget, IsPlayable}
-use Rattle.legal_threads.proofs.Faces.{Alike, found}
+use Rattle.legal_threads.proofs.Faces.{Alike}
 use Rattle.legal_threads.proofs.RowFits.{goes_then}
 use Rattle.legal_instances.specs.Instances.{IsInstance}
-use Rattle.legal_instances.proofs.Bounds.{IsNumber, cast_number, sum_number}
+use Rattle.legal_instances.proofs.Bounds.{cast_number, sum_number}
 use Rattle.legal_instances.proofs.Bubbles.{updated_cast}
 use Rattle.legal_instances.proofs.Casts.{IsCast, found_at, cast_changed}
 use Rattle.legal_instances.proofs.Changes.{each_get, each_found}

@@ -1,5 +1,5 @@
 -- Every row keeps instances legal.
-use Rattle.std.proofs.Common.{◌≡◌, ℕ, ◌^◌, ◌<◌, Option, Some}
+use Rattle.std.proofs.Common.{◌≡◌, ℕ, ◌^◌, ◌<◌, Some}
 use Rattle.opcode_table.specs.declared.grouping.Group.{Group}
 use Rattle.opcode_table.specs.declared.grouping.Group.TheVariants.{Motion, Looks, Data, Control}
 use Rattle.opcode_table.specs.Kinds.{group}
@@ -11,7 +11,7 @@ use Rattle.script_machine.specs.Outcome.{Outcome, Goes, Full, TooLong, Spent, If
 use Rattle.script_machine.specs.Parts.{DataParts}
 use Rattle.script_machine.specs.Program.{Program, stage_number}
 use Rattle.script_machine.specs.Script.{Command}
-use Rattle.script_machine.specs.Step.{Applied, applied, with_motion, with_looks, with_data, row_by, row}
+use Rattle.script_machine.specs.Step.{applied, with_motion, with_looks, with_data, row_by, row}
 use Rattle.script_machine.specs.Stopping.{scene_of, with_scene}
 use Rattle.script_machine.specs.Stores.{live}
 use Rattle.script_machine.specs.Tasks.{Task, listed}
@@ -19,9 +19,8 @@ use Rattle.script_machine.specs.View.{Row}
 use Rattle.script_machine.specs.Words.{Words, draw}
 use Rattle.script_machine.specs.World.{World}
 use Rattle.legal_threads.specs.Playable.{IsPlayable}
-use Rattle.legal_threads.proofs.RowFits.{goes_any}
 use Rattle.legal_instances.proofs.Casts.{IsCast}
-use Rattle.legal_instances.proofs.ControlsRows.{control_cast}
+use Rattle.legal_instances.proofs.ControlRows.{control_cast}
 use Rattle.legal_instances.proofs.LooksRows.{looks_cast}
 use Rattle.legal_instances.proofs.MotionRows.{motion_cast}
 

@@ -1,5 +1,5 @@
 -- The rows of control, events, procedures and sensing keep instances legal: a question may be shown as a bubble.
-use Rattle.std.proofs.Common.{◌≡◌, ℕ, zero, suc, Bool, true, false, if◌then◌else◌, List, [], ◌∷◌, Option, Some, None}
+use Rattle.std.proofs.Common.{ℕ, zero, suc, Bool, true, false, if◌then◌else◌, List, [], ◌∷◌, Option, Some, None}
 use Rattle.std.specs.Prelude.{codes, pos, negsuc}
 use Rattle.opcode_table.specs.declared.opcode.Opcode.{Opcode}
 use Rattle.opcode_table.specs.declared.opcode.Opcode.TheVariants.{ControlRepeat, ControlWait, EventBroadcastAndWait, ProceduresCall, SensingAskAndWait, ControlForever, ControlRepeatUntil, ControlIf, ControlIfElse, ControlWaitUntil, ControlStop, ControlCreateCloneOf, ControlDeleteThisClone, EventBroadcast, SensingResetTimer}
