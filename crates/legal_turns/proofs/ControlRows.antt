@@ -1,16 +1,16 @@
 -- The rows of control, events, procedures and sensing keep instances, turns and parameters within the limit.
-use Rattle.std.proofs.Common.{◌≡◌, ℕ, zero, suc, ◌/◌, ◌≤◌, Bool, true, false, not, if◌then◌else◌, List, [], ◌∷◌, ◌++◌, Option, Some, None, refl, arith}
-use Rattle.std.specs.Prelude.{ℤ, pos, negsuc, unsigned_abs, codes, bytes_eq, unwrap_or, ◌||◌, IfSome}
+use Rattle.std.proofs.Common.{ℕ, zero, suc, Bool, true, false, not, if◌then◌else◌, List, [], ◌∷◌, Option, Some, None, arith}
+use Rattle.std.specs.Prelude.{pos, negsuc, codes, bytes_eq, unwrap_or, ◌||◌, IfSome}
 use Rattle.std.proofs.lemmas.Int.{ints}
 use Rattle.opcode_table.specs.declared.opcode.Opcode.{Opcode}
 use Rattle.opcode_table.specs.declared.opcode.Opcode.TheVariants.{ControlForever, ControlRepeat, ControlRepeatUntil, ControlIf, ControlIfElse, ControlWait, ControlWaitUntil, ControlStop, ControlCreateCloneOf, ControlDeleteThisClone, EventBroadcast, EventBroadcastAndWait, ProceduresCall, SensingAskAndWait, SensingResetTimer}
 use Rattle.scratch_number.specs.declared.number.Num.{Num}
 use Rattle.scratch_number.specs.declared.number.Num.TheVariants.{Fixed, Inf, NegInf, Nan}
-use Rattle.scratch_number.specs.Number.{IsWithin, floor_by}
+use Rattle.scratch_number.specs.Number.{IsWithin}
 use Rattle.scratch_number.specs.Arithmetic.{round}
 use Rattle.scratch_values.specs.declared.value.Value.{Value}
 use Rattle.scratch_values.specs.Named.{Arguments, item_named, with_param}
-use Rattle.script_machine.specs.Outcome.{Outcome, Goes, IfGoes, then_do}
+use Rattle.script_machine.specs.Outcome.{IfGoes}
 use Rattle.script_machine.specs.Program.{Program, Procedure, procedure, sprite_named}
 use Rattle.script_machine.specs.Threads.{Params, Listed, among, wait_for}
 use Rattle.script_machine.specs.declared.threads.Count.{Count}
@@ -18,17 +18,17 @@ use Rattle.script_machine.specs.declared.threads.Count.TheVariants.{Whole, Infin
 use Rattle.script_machine.specs.declared.threads.Context.{Context}
 use Rattle.script_machine.specs.declared.threads.Context.TheVariants.{Fresh, Repeat, Wait, Glide, Started, Asked, Spoken, Called}
 use Rattle.script_machine.specs.declared.threads.Control.{Control}
-use Rattle.script_machine.specs.declared.threads.Control.TheVariants.{Next, Branch, Yield, StopThis, StopOthers, StopAll, Clone}
+use Rattle.script_machine.specs.declared.threads.Control.TheVariants.{Next, Branch, Yield}
 use Rattle.script_machine.specs.declared.bubble.Say.TheVariants as say
 use Rattle.script_machine.specs.declared.devices.Question.{Question}
 use Rattle.script_machine.specs.Stores.{instance_at, elapsed, less}
 use Rattle.script_machine.specs.BubbleText.{cut}
 use Rattle.script_machine.specs.Parts.{Scene}
 use Rattle.script_machine.specs.View.{Row, number_at, text_at, truth_at, field_at}
-use Rattle.script_machine.specs.ControlRows.{only, branch_if, count_of, turns_left, repeat_row, wait_row, stop_control, clone_some, clone_control, broadcast_and_wait, params_from, params_of, call_some, call_row, question_shown, asked, ask_row, question, timer_reset, control_row}
+use Rattle.script_machine.specs.ControlRows.{only, branch_if, count_of, turns_left, repeat_row, wait_row, stop_control, clone_some, clone_control, broadcast_and_wait, params_from, call_some, call_row, question_shown, asked, ask_row, question, control_row}
 use Rattle.legal_threads.specs.Lists.{Each}
 use Rattle.legal_threads.proofs.RowFits.{goes_then}
-use Rattle.legal_turns.specs.Within.{IsValueWithin, IsCountWithin, IsContextWithin, AreParamsWithin, IsProgramWithin, most_turns}
+use Rattle.legal_turns.specs.Within.{IsValueWithin, IsCountWithin, IsContextWithin, AreParamsWithin, IsProgramWithin}
 use Rattle.legal_turns.proofs.Numbers.{round_within}
 use Rattle.legal_turns.proofs.Lists.{if_has, unwrap_has, named_has, found_has}
 use Rattle.legal_turns.proofs.Values.{AreArgumentsWithin, number_at_within}

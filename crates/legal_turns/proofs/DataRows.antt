@@ -1,9 +1,8 @@
 -- The rows of data keep stores within the limit.
-use Rattle.std.proofs.Common.{◌≡◌, ℕ, ◌+◌, ◌-◌, Bool, true, false, List, [], ◌∷◌, ◌++◌, length, take, drop, Option, Some, None}
+use Rattle.std.proofs.Common.{ℕ, ◌+◌, ◌-◌, Bool, true, false, List, [], ◌∷◌, ◌++◌, length, take, drop, Option, Some, None}
 use Rattle.std.specs.Prelude.{◌==◌, codes, slice_set, position}
 use Rattle.opcode_table.specs.declared.opcode.Opcode.{Opcode}
 use Rattle.opcode_table.specs.declared.opcode.Opcode.TheVariants.{DataSetVariableTo, DataChangeVariableBy, DataShowVariable, DataHideVariable, DataAddToList, DataDeleteOfList, DataDeleteAllOfList, DataInsertAtList, DataReplaceItemOfList, DataShowList, DataHideList}
-use Rattle.scratch_number.specs.declared.number.Num.{Num}
 use Rattle.scratch_number.specs.Arithmetic.{add}
 use Rattle.scratch_values.specs.Casts.{number}
 use Rattle.scratch_values.specs.Named.{Arguments}
@@ -11,7 +10,7 @@ use Rattle.scratch_values.specs.declared.index.Index.{Index}
 use Rattle.scratch_values.specs.declared.index.Index.TheVariants.{All, At, Invalid}
 use Rattle.scratch_values.specs.declared.value.Value.{Value}
 use Rattle.scratch_values.specs.declared.value.Value.TheVariants.{Number}
-use Rattle.script_machine.specs.Outcome.{Outcome, Goes, IfGoes, then_do}
+use Rattle.script_machine.specs.Outcome.{IfGoes}
 use Rattle.script_machine.specs.Program.{Records}
 use Rattle.script_machine.specs.Random.{indexed}
 use Rattle.script_machine.specs.declared.instance.Instance.{Instance}
@@ -22,7 +21,7 @@ use Rattle.script_machine.specs.Stores.{Variables, on_store, owner_of, index_of,
 use Rattle.script_machine.specs.Monitors.{is_some_same, what_shows, monitor_set_by}
 use Rattle.script_machine.specs.View.{Row, value_at, number_at}
 use Rattle.script_machine.specs.Parts.{DataParts}
-use Rattle.script_machine.specs.DataRows.{most_items, added, inserted, deleted, replaced, value_set, items_set, Named, variable_set, list_set, items_named, shown_as, with_variables, monitored, raised, with_list, at_index, data_by, named, data_row}
+use Rattle.script_machine.specs.DataRows.{most_items, added, inserted, deleted, replaced, Named, variable_set, list_set, items_named, shown_as, monitored, at_index, data_by, named, data_row}
 use Rattle.legal_threads.specs.Lists.{Each}
 use Rattle.legal_threads.proofs.Numbers.{each_append}
 use Rattle.legal_threads.proofs.RowFits.{goes_then, goes_any}

@@ -5,3 +5,8 @@ pub mod Rows
 pub mod LooksRows
 pub mod DataRows
 pub mod ControlRows
+pub mod Threads
+pub mod Executions
+pub mod Frames
+pub mod Legal
+pub mod First

@@ -1,8 +1,7 @@
 -- A fact of each element stays where a list is cut, joined, changed at a place or put in another order.
-use Rattle.std.proofs.Common.{◌≡◌, ℕ, zero, suc, ◌+◌, Bool, true, false, if◌then◌else◌, cond, List, [], ◌∷◌, ◌++◌, map, reverse, filter, length, take, drop, Option, Some, None, refl, sym, subst}
+use Rattle.std.proofs.Common.{ℕ, zero, suc, ◌+◌, Bool, true, false, if◌then◌else◌, cond, List, [], ◌∷◌, ◌++◌, map, reverse, take, drop, Option, Some, None, sym, subst}
 use mathlib.Core.List.{reverse-cons}
 use Rattle.std.specs.Prelude.{IfSome, unwrap_or, option_map, find, position, slice_get, slice_set, slice_index_or, remove, insert, flat_map, bytes_eq}
-use Rattle.std.specs.Option.{option_and_then}
 use Rattle.std.specs.List.{enumerate_from}
 use Rattle.scratch_values.specs.Named.{item_named}
 use Rattle.script_machine.specs.Lists.{set_some, changed_at, changed_at_some, first_changed, removed_at, first_removed}

@@ -1,6 +1,6 @@
 -- The rows of looks keep instances within the limit.
-use Rattle.std.proofs.Common.{◌≡◌, ℕ, Bool, true, false, if◌then◌else◌, List, [], ◌∷◌, Option, Some, None, is_some}
-use Rattle.std.specs.Prelude.{pos, codes, option_map, slice_index_or, insert, remove, IfSome}
+use Rattle.std.proofs.Common.{ℕ, Bool, true, false, List, [], ◌∷◌, Option, Some, None, is_some}
+use Rattle.std.specs.Prelude.{pos, codes, option_map, slice_index_or, remove, IfSome}
 use Rattle.std.specs.List.{list_any}
 use Rattle.script_words.specs.declared.stops.CounterKind.TheVariants as counter
 use Rattle.opcode_table.specs.declared.opcode.Opcode.{Opcode}
@@ -11,7 +11,7 @@ use Rattle.scratch_number.specs.Arithmetic.{add}
 use Rattle.scratch_values.specs.declared.value.Value.{Value}
 use Rattle.scratch_values.specs.Casts.{zero_number}
 use Rattle.scratch_values.specs.Named.{Arguments}
-use Rattle.script_machine.specs.Outcome.{Outcome, Goes, IfGoes, then_do}
+use Rattle.script_machine.specs.Outcome.{Goes, IfGoes}
 use Rattle.script_machine.specs.Program.{Records, stage_number}
 use Rattle.script_machine.specs.declared.bubble.Say.{Say}
 use Rattle.script_machine.specs.declared.bubble.Say.TheVariants as say
@@ -20,13 +20,13 @@ use Rattle.script_machine.specs.declared.threads.Context.{Context}
 use Rattle.script_machine.specs.declared.threads.Context.TheVariants.{Fresh, Repeat, Wait, Glide, Started, Asked, Spoken, Called}
 use Rattle.script_machine.specs.Threads.{Listed, is_running, among, wait_for}
 use Rattle.script_machine.specs.declared.threads.Control.TheVariants.{Yield, YieldTick}
-use Rattle.script_machine.specs.Stores.{live, instance_at, on_instance, is_on_stage, less}
+use Rattle.script_machine.specs.Stores.{live, instance_at, is_on_stage, less}
 use Rattle.script_machine.specs.Parts.{Scene, LooksParts, bubble_set, bubble_updated}
 use Rattle.script_machine.specs.View.{Row, value_at, number_at, field_at}
-use Rattle.script_machine.specs.Numbers.{whole, kept_in}
+use Rattle.script_machine.specs.Numbers.{whole}
 use Rattle.script_machine.specs.Texts.{bubble_text}
 use Rattle.script_machine.specs.Effects.{no_effects}
-use Rattle.script_machine.specs.Looks.{effect_named, effect_kept, with_effect, size_kept, with_size, layer, at_layer, layer_after, forward_by, front_or_back, last_layer, goes_on, with_targets, with_words, own, changed, looks, looks_by, redrawn, on_sprite, effect_set, layered, spoken, shown_bubble, timed_bubble, with_costume, next_costume, switched_to, costume_switched, backdrop_hats, with_backdrop, backdrop_switched, backdrop_and_wait, looks_row}
+use Rattle.script_machine.specs.Looks.{effect_named, with_effect, size_kept, with_size, layer, at_layer, layer_after, forward_by, front_or_back, last_layer, goes_on, with_targets, with_words, own, changed, looks, looks_by, redrawn, on_sprite, effect_set, layered, spoken, shown_bubble, timed_bubble, with_costume, next_costume, switched_to, costume_switched, backdrop_hats, with_backdrop, backdrop_switched, backdrop_and_wait, looks_row}
 use Rattle.legal_threads.specs.Lists.{Each}
 use Rattle.legal_threads.proofs.RowFits.{goes_then, goes_any}
 use Rattle.legal_threads.proofs.Calm.{number_goes}

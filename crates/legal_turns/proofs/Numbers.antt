@@ -1,6 +1,6 @@
 -- What arithmetic and texts give is within the limit.
-use Rattle.std.proofs.Common.{◌≡◌, ℕ, zero, suc, ◌+◌, ◌*◌, ◌/◌, ◌<◌, ◌≤◌, Bool, true, false, List, [], ◌∷◌, Option, Some, None, inl, inr, refl, subst, arith}
-use Rattle.std.specs.Prelude.{ℤ, pos, negsuc, neg_ℤ, ◌+ℤ◌, ◌-ℤ◌, ◌*ℤ◌, unsigned_abs, nat_le, nat_lt, if◌then◌else◌, drop, length, ◌++◌, bytes_eq, codes}
+use Rattle.std.proofs.Common.{◌≡◌, ℕ, zero, suc, ◌+◌, ◌*◌, ◌<◌, ◌≤◌, Bool, true, false, List, [], ◌∷◌, Option, Some, None, refl, arith}
+use Rattle.std.specs.Prelude.{ℤ, pos, negsuc, neg_ℤ, ◌+ℤ◌, ◌*ℤ◌, unsigned_abs, nat_le, nat_lt, if◌then◌else◌, drop, length, ◌++◌, bytes_eq, codes}
 use Rattle.std.specs.Str.{trim}
 use Rattle.std.specs.Str.Parse.{digits_value}
 use Rattle.std.proofs.lemmas.Int.{ints}
@@ -9,9 +9,9 @@ use Rattle.std.specs.Int.{int_rem_euclid}
 use Rattle.std.proofs.lemmas.Nat.{mod_below}
 use Rattle.scratch_number.specs.declared.number.Num.{Num}
 use Rattle.scratch_number.specs.declared.number.Num.TheVariants.{Fixed, Inf, NegInf, Nan}
-use Rattle.scratch_number.specs.Number.{number, near, floor_by, floor_quotient, infinity_by, negated, IsWithin, limit}
+use Rattle.scratch_number.specs.Number.{number, near, floor_quotient, infinity_by, negated, IsWithin, limit}
 use Rattle.scratch_number.specs.Arithmetic.{add, sub, mul, ratio, div, infinity_over, remainder, finite_modulo, modulo, floor, ceiling, round, abs, million}
-use Rattle.scratch_number.specs.Angles.{sine_to_360, turn, sqrt, sin, cos, tan, asin, acos, atan, atan2, atan_to_45, arcsine, direction_of, degrees, root_of}
+use Rattle.scratch_number.specs.Angles.{sine_to_360, turn, sqrt, sin, cos, tan, asin, acos, atan, atan_to_45, arcsine, direction_of, degrees, root_of}
 use Rattle.scratch_number.specs.Grammar.{decimal_size, with_sign}
 use Rattle.scratch_number.specs.Reading.{number_of, trimmed_number, base_of, based_number, unsigned_number, decimal_number, is_numeral, digits_front, fraction_front, after_digits, after_fraction, exponent_of, has_minus, without_sign}
 use Rattle.scratch_number.proofs.Remainders.{remainder_down}
@@ -165,9 +165,6 @@ abs_within NegInf h = tt
 abs_within Nan h = tt
 
 -- Roots and angles
-
-pub degrees_within : (n : ℕ) → n * 1000000 ≤ limit → IsWithin (degrees n)
-degrees_within n h = h
 
 pub sqrt_within : (a : Num) → IsWithin (sqrt a)
 sqrt_within (Fixed (pos n)) = number_within (pos (root_of (n * 1000000)))

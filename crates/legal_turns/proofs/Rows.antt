@@ -1,42 +1,38 @@
 -- What each row keeps within the limit: instances, stores, and what it says of its thread. Here, the rows of motion.
-use Rattle.std.proofs.Common.{◌≡◌, ℕ, zero, suc, ◌+◌, ◌-◌, ◌*◌, ◌/◌, ◌^◌, ◌≤◌, Bool, true, false, not, ◌&&◌, ◌||◌, if◌then◌else◌, List, [], ◌∷◌, ◌++◌, length, take, drop, Option, Some, None, is_some, arith, refl}
-use Rattle.std.specs.Prelude.{ℤ, pos, negsuc, neg_ℤ, ◌+ℤ◌, ◌-ℤ◌, ◌*ℤ◌, unsigned_abs, IfSome, unwrap_or, option_map, ◌==◌, codes, bytes_eq, slice_set, slice_index_or}
-use Rattle.std.specs.Option.{option_and_then}
-use Rattle.std.specs.List.{list_any}
-use Rattle.std.proofs.lemmas.Int.{ints}
+use Rattle.std.proofs.Common.{ℕ, ◌+◌, ◌*◌, ◌/◌, ◌^◌, Bool, true, false, if◌then◌else◌, List, Option, Some, None}
+use Rattle.std.specs.Prelude.{pos, ◌+ℤ◌, ◌-ℤ◌, ◌*ℤ◌, IfSome, option_map, ◌==◌, codes, bytes_eq}
 use Rattle.opcode_table.specs.declared.opcode.Opcode.{Opcode}
 use Rattle.opcode_table.specs.declared.opcode.Opcode.TheVariants.{MotionMoveSteps, MotionTurnRight, MotionTurnLeft, MotionGoTo, MotionGoToXY, MotionGlideSecsToXY, MotionGlideTo, MotionPointInDirection, MotionPointTowards, MotionChangeXBy, MotionSetX, MotionChangeYBy, MotionSetY, MotionSetRotationStyle}
 use Rattle.scratch_number.specs.declared.number.Num.{Num}
 use Rattle.scratch_number.specs.declared.number.Num.TheVariants.{Fixed, Inf, NegInf, Nan}
-use Rattle.scratch_number.specs.Number.{IsWithin, number, floor_by}
-use Rattle.scratch_number.specs.Arithmetic.{add, sub, mul, div, round}
-use Rattle.scratch_number.specs.Angles.{sin, cos, atan2, degrees}
-use Rattle.scratch_values.specs.declared.value.Value.{Value}
+use Rattle.scratch_number.specs.Number.{IsWithin, floor_by}
+use Rattle.scratch_number.specs.Arithmetic.{add, sub, mul, div}
+use Rattle.scratch_number.specs.Angles.{sin, cos}
 use Rattle.scratch_values.specs.Casts.{zero_number}
 use Rattle.scratch_values.specs.Named.{Arguments}
-use Rattle.script_machine.specs.Outcome.{Outcome, Goes, IfGoes, then_do}
-use Rattle.script_machine.specs.Words.{Words, Drawn, undrawn, draw}
+use Rattle.script_machine.specs.Outcome.{Outcome, IfGoes}
+use Rattle.script_machine.specs.Words.{Words, Drawn, draw}
 use Rattle.script_machine.specs.Program.{Records}
 use Rattle.script_machine.specs.declared.instance.Style.{Style}
 use Rattle.script_machine.specs.declared.instance.Instance.{Instance}
 use Rattle.script_machine.specs.declared.threads.Context.{Context}
-use Rattle.script_machine.specs.declared.threads.Context.TheVariants.{Fresh, Repeat, Wait, Glide, Started, Asked, Spoken, Called}
+use Rattle.script_machine.specs.declared.threads.Context.TheVariants.{Fresh, Glide}
 use Rattle.script_machine.specs.declared.threads.Control.{Control}
-use Rattle.script_machine.specs.declared.threads.Control.TheVariants.{Next, Branch, Yield, YieldTick, Promise, Call, StopThis, StopOthers, StopAll, DeleteClone, Start, Clone}
+use Rattle.script_machine.specs.declared.threads.Control.TheVariants.{Next, Yield, Call}
 use Rattle.script_machine.specs.declared.threads.GlideState.{GlideState}
 use Rattle.script_machine.specs.Stores.{Devices, instance_at, is_on_stage, elapsed, less, on_instance}
 use Rattle.script_machine.specs.View.{Row, number_at, text_at, field_at}
 use Rattle.script_machine.specs.Parts.{MotionParts}
-use Rattle.script_machine.specs.Numbers.{whole, direction_after}
+use Rattle.script_machine.specs.Numbers.{direction_after}
 use Rattle.script_machine.specs.Random.{scattered}
 use Rattle.script_machine.specs.Sensing.{sprite}
-use Rattle.script_machine.specs.Motion.{Point, at_point, facing, random_point, point_named, direction_of, direction_towards, style_named, stepped, moved, unmoved, moved_by, with_words, part_way, from_point, to_point, glide_from, glide, glide_to, pointed, sprite_row, motion_row}
+use Rattle.script_machine.specs.Motion.{Point, at_point, facing, random_point, point_named, direction_towards, style_named, stepped, moved, unmoved, moved_by, with_words, part_way, from_point, to_point, glide_from, glide, glide_to, pointed, sprite_row, motion_row}
 use Rattle.legal_threads.specs.Lists.{Each}
 use Rattle.legal_threads.proofs.RowFits.{goes_then, goes_any}
-use Rattle.legal_turns.specs.Within.{IsValueWithin, AreParamsWithin, IsContextWithin, IsInstanceWithin, IsStoreWithin}
-use Rattle.legal_turns.proofs.Numbers.{number_within, add_within, sub_within, zero_within}
-use Rattle.legal_turns.proofs.Lists.{if_has, map_has, each_first_changed}
-use Rattle.legal_turns.proofs.Values.{AreArgumentsWithin, number_at_within, instance_within, whole_within, sprite_found_within}
+use Rattle.legal_turns.specs.Within.{AreParamsWithin, IsContextWithin, IsInstanceWithin}
+use Rattle.legal_turns.proofs.Numbers.{number_within, add_within}
+use Rattle.legal_turns.proofs.Lists.{map_has, each_first_changed}
+use Rattle.legal_turns.proofs.Values.{AreArgumentsWithin, number_at_within, whole_within, sprite_found_within}
 
 -- the parameters of a call
 abbrev pub IsControlWithin : Control → Type 0

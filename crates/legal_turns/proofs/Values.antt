@@ -1,6 +1,6 @@
 -- What reporters give, and the value of every expression, is within the limit.
-use Rattle.std.proofs.Common.{◌≡◌, ℕ, zero, suc, ◌+◌, ◌-◌, ◌*◌, ◌/◌, ◌^◌, Bool, true, false, if◌then◌else◌, List, [], ◌∷◌, ◌++◌, length, Option, Some, None, arith, refl}
-use Rattle.std.specs.Prelude.{ℤ, pos, negsuc, ◌+ℤ◌, ◌-ℤ◌, ◌*ℤ◌, IfSome, unwrap_or, position, bytes_eq, codes, nat_lt, nat_le, ◌==◌, ◌&&◌, ◌||◌, not, chars, slice_get, slice_index_or, find}
+use Rattle.std.proofs.Common.{ℕ, ◌+◌, ◌-◌, ◌*◌, ◌^◌, Bool, true, false, if◌then◌else◌, List, [], ◌∷◌, ◌++◌, length, Option, Some, None}
+use Rattle.std.specs.Prelude.{ℤ, pos, ◌+ℤ◌, ◌-ℤ◌, ◌*ℤ◌, IfSome, position, bytes_eq, codes, nat_le, ◌==◌, ◌&&◌, ◌||◌, chars, slice_get, find}
 use Rattle.std.specs.Option.{option_and_then}
 use Rattle.std.specs.declared.cmp.Ordering.{Ordering}
 use Rattle.std.specs.declared.cmp.Ordering.TheVariants.{Less, Equal, Greater}
@@ -9,10 +9,9 @@ use Rattle.opcode_table.specs.declared.opcode.Opcode.TheVariants.{OperatorAdd, O
 use Rattle.scratch_number.specs.declared.number.Num.{Num}
 use Rattle.scratch_number.specs.declared.number.Num.TheVariants.{Fixed, Inf, NegInf, Nan}
 use Rattle.scratch_number.specs.Number.{IsWithin, floor_by, order}
-use Rattle.scratch_number.specs.Arithmetic.{add, sub, mul, div, modulo, floor, ceiling, round, abs, million}
-use Rattle.scratch_number.specs.Angles.{sqrt, sin, cos, tan, asin, acos, atan}
+use Rattle.scratch_number.specs.Arithmetic.{add, sub, mul, million}
 use Rattle.scratch_values.specs.declared.value.Value.{Value}
-use Rattle.scratch_values.specs.declared.value.Value.TheVariants.{Number, Truth, Text}
+use Rattle.scratch_values.specs.declared.value.Value.TheVariants.{Number, Text}
 use Rattle.scratch_values.specs.declared.index.Index.{Index}
 use Rattle.scratch_values.specs.declared.index.Index.TheVariants.{All, At, Invalid}
 use Rattle.scratch_values.specs.declared.names.VarRef.{VarRef}
@@ -24,16 +23,15 @@ use Rattle.script_machine.specs.Outcome.{Outcome, Goes, TooLong, IfGoes, then_do
 use Rattle.script_machine.specs.Words.{Words, Drawn, undrawn, made_of, draw}
 use Rattle.script_machine.specs.Numbers.{whole}
 use Rattle.script_machine.specs.Script.{Expression, Constant, Variable, Contents, Operator, Expressions, NoInput, AndInput}
-use Rattle.script_machine.specs.Program.{Records, record_at, no_target, sprite_named, stage_number}
+use Rattle.script_machine.specs.Program.{Records, record_at, no_target, sprite_named}
 use Rattle.script_machine.specs.declared.instance.Instance.{Instance}
-use Rattle.script_machine.specs.declared.records.TargetRecord.{TargetRecord}
 use Rattle.script_machine.specs.declared.variables.Store.{Store}
 use Rattle.script_machine.specs.Stores.{Variables, Devices, live, instance_at, no_instance, record_of, is_on_stage, store_at, owner_of, index_of, value_in, items_in, value_of, items_of, elapsed}
 use Rattle.script_machine.specs.Texts.{text_value, contents_text}
 use Rattle.script_machine.specs.Random.{between_bounds, picked, picked_by, looks_whole, pick_random, indexed}
 use Rattle.script_machine.specs.View.{View, value_at, number_at, text_at, field_at, variable_at}
-use Rattle.script_machine.specs.Sensing.{own, stage_of, sprite, distance, distance_to_sprite, distance_to, costume_number, costume_name, number_or_name, variable_at_some, common_property, stage_property, sprite_property, property_by, property_of}
-use Rattle.script_machine.specs.Reporters.{mathop, item_at, place_from_one, place_of_item, is_equal, variable, items, parameter, is_number, plain, reported}
+use Rattle.script_machine.specs.Sensing.{own, stage_of, sprite, distance, distance_to_sprite, distance_to, costume_number, number_or_name, variable_at_some, common_property, stage_property, sprite_property, property_by, property_of}
+use Rattle.script_machine.specs.Reporters.{mathop, item_at, place_from_one, is_equal, variable, items, parameter, is_number, plain, reported}
 use Rattle.script_machine.specs.Evaluate.{value, values}
 use Rattle.legal_threads.specs.Lists.{Each}
 use Rattle.legal_threads.proofs.RowFits.{goes_then, goes_any}
