@@ -48,7 +48,7 @@ module _ (p : Program) (P : ℕ → Statement → Type 0) (Q : World Task → Ty
     pub given : (w : World Task) → (w.next_thread ≡ last_number → ⊥) → Q w → Q (record w { next_thread = w.next_thread + 1 })
     -- an execution: its inputs draw words, its row changes what its group may change
     pub evaluates : (w : World Task) (v : View) (inputs : Expressions) → Q w → IfGoes (values v inputs w.words) (λ d. Q (record w { words = d.words }))
-    pub rows : (w : World Task) (t : Task) (s : Statement) (c : Context) (a : Arguments) (x : Applied) → Stands w t s → Q w
+    pub rows : (w : World Task) (t : Task) (s : Statement) (c : Context) (a : Arguments) (x : Applied) → Stands w t s → a.variables ≡ (command_of s).refs → Q w
         → row p (command_of s) a t.of t.serial c w ≡ Goes x → Applies p t.of t.serial (command_of s) w x → Q x.world
     -- what controls do beside
     pub drops : (w : World Task) (n : ℕ) → Q w → IfGoes (questions_dropped n (scene_of w)) (λ s. Q (with_scene w s))

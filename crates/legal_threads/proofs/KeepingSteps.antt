@@ -177,15 +177,15 @@ module _ (p : Program) (P : ℕ → Statement → Type 0) (Q : World Task → Ty
         inhabited = h.moving.sound.inhabited;
       }
 
-      row_keeps : (late : Bool) (c : Context) (w : World Task) (a : Arguments) → Ready p good i t s r c w → Q w → IfGoes (then_do (row p (command_of s) a t.of t.serial c w) (λ x. act p i late t s r x.control x.context x.world)) At
-      row_keeps late c w a h q = goes_known (row p (command_of s) a t.of t.serial c w) _ (Applies p t.of t.serial (command_of s) w) At
+      row_keeps : (late : Bool) (c : Context) (w : World Task) (a : Arguments) → Ready p good i t s r c w → a.variables ≡ (command_of s).refs → Q w → IfGoes (then_do (row p (command_of s) a t.of t.serial c w) (λ x. act p i late t s r x.control x.context x.world)) At
+      row_keeps late c w a h refs q = goes_known (row p (command_of s) a t.of t.serial c w) _ (Applies p t.of t.serial (command_of s) w) At
           (row_applies p good i t s r c w h a)
-          (λ x e g. act_keeps i t s r late x.control x.context x.world (acts p good i t s r c w h x g) (keeps.rows w t s c a x (stands c w h) q e g))
+          (λ x e g. act_keeps i t s r late x.control x.context x.world (acts p good i t s r c w h x g) (keeps.rows w t s c a x (stands c w h) refs q e g))
 
       pub execute_keeps : (late : Bool) (c : Context) (params : Params) (w : World Task) → Ready p good i t s r c w → Q w → IfGoes (execute p i late t s c params r w) At
-      execute_keeps late c params w h q = goes_then (evaluated (view_of p t params w) s w.words) _ (λ d. Q (record w { words = d.words })) At
-          (goes_then (values (view_of p t params w) (inputs_of s) w.words) _ (λ d. Q (record w { words = d.words })) (λ d. Q (record w { words = d.words })) (keeps.evaluates w (view_of p t params w) (inputs_of s) q) (λ d g. g))
-          (λ d g. row_keeps late c (record w { words = d.words }) d.value (with_words p good i t s r c w d.words h) g)
+      execute_keeps late c params w h q = goes_then (evaluated (view_of p t params w) s w.words) _ (λ d. (d.value.variables ≡ (command_of s).refs) × Q (record w { words = d.words })) At
+          (goes_then (values (view_of p t params w) (inputs_of s) w.words) _ (λ d. Q (record w { words = d.words })) (λ d. (d.value.variables ≡ (command_of s).refs) × Q (record w { words = d.words })) (keeps.evaluates w (view_of p t params w) (inputs_of s) q) (λ d g. (refl, g)))
+          (λ d g. row_keeps late c (record w { words = d.words }) d.value (with_words p good i t s r c w d.words h) g.0 g.1)
 
     module _ (late : Bool) (t : Task) (w : World Task) (moving : Moving p w) (runs : running i w.threads ≡ Some t) (below : t.serial < w.next_thread) (free : waits_for_promise t.items ≡ false) (q : Q w) where
       first_keeps : (h : IsThread p w.targets w.devices.clock w.next_thread (askers w.devices) (speakers w.devices) t) (items : List Item) → t.items ≡ items → Legal p h.head.script w.devices.clock items t.warp → FirstKeptWell w.next_thread items → IfGoes (execute_first p i late t items w) At

@@ -3,6 +3,7 @@ pub mod Devices
 pub mod Instances
 pub mod Laws
 pub mod Monitors
+pub mod Ranges
 pub mod Rows
 pub mod Saved
 pub mod Saving

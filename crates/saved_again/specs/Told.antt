@@ -1,0 +1,47 @@
+-- What a run has that can be told: beside what types say, what stands in order and what is in the range of the format.
+use Rattle.std.specs.Prelude.{◌≡◌, ℕ, ◌≤◌, true, false, List, [], ◌∷◌, map, filter, length, unsigned_abs}
+use Rattle.std.specs.List.{All}
+use Rattle.script_machine.specs.declared.instance.Instance.{Instance}
+use Rattle.script_machine.specs.declared.threads.Context.{Context}
+use Rattle.script_machine.specs.declared.threads.Context.TheVariants.{Repeat}
+use Rattle.script_machine.specs.declared.threads.Count.TheVariants.{Whole, Infinite}
+use Rattle.script_machine.specs.declared.variables.Store.{Store}
+use Rattle.script_machine.specs.Line.{key_name}
+use Rattle.script_machine.specs.Pending.{Item, Do, Held, Returned, Branch, Again, Back}
+use Rattle.script_machine.specs.ScriptText.{key_of_rest}
+use Rattle.script_machine.specs.Stores.{store_at}
+use Rattle.script_machine.specs.Tasks.{Task}
+use Rattle.script_machine.specs.Threads.{is_done}
+use Rattle.std.specs.Prelude.{Some}
+use Rattle.saved_text.specs.Ranges.{IsRun, IsTask}
+use Rattle.saved_text.specs.Saved.{Snapshot}
+use Rattle.saved_rules.specs.InstanceShapes.{rises}
+use Rattle.saved_rules.specs.RunShapes.{is_digest, stores_in_order}
+use Rattle.saved_rules.specs.ThreadShapes.{most_turns}
+
+-- the store that is told of an instance
+abbrev pub store_told : List Store → Instance → Store
+store_told stores i = record { of = i.number; values = (store_at i.number stores).values; lists = (store_at i.number stores).lists }
+
+-- the turns that a loop has left are in the range of the format
+abbrev pub HasFewTurns : Context → Type 0
+HasFewTurns (Repeat (Whole turns)) = unsigned_abs turns ≤ most_turns
+HasFewTurns c = Unit {0}
+
+abbrev pub KeepsFewTurns : Item → Type 0
+KeepsFewTurns (Held s c) = HasFewTurns c
+KeepsFewTurns (Again s c warp) = HasFewTurns c
+KeepsFewTurns x = Unit {0}
+
+-- a thread that is not done
+pub record IsTold (t : Task) : Type 0 where
+  pub alive : is_done t.status ≡ false
+  pub turns : All KeepsFewTurns t.items
+
+pub record CanBeTold (s : Snapshot Task) : Type 0 where
+  pub ranges : IsRun IsTask s
+  pub project : is_digest s.project ≡ true
+  pub keys : All (λ k. key_of_rest (key_name k) ≡ Some k) s.devices.keys
+  pub edges : All (λ i. rises (map (λ e. e.0) i.edges) ≡ true) s.targets
+  pub stores : stores_in_order (map (store_told s.variables.stores) s.targets) ≡ s.variables.stores
+  pub threads : All IsTold s.threads

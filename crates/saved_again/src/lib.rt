@@ -1,0 +1,2 @@
+//! A run that can be told is read back as it was: laws over definitions. There is no code here.
+#![tactic(auto)]
