@@ -81,7 +81,7 @@ module _ (p : Program) where
     redraw = λ w b h. record { devices = h.devices; frames = h.frames; threads = h.threads; instances = h.instances; targets = h.targets };
     given = λ w none h. record { devices = h.devices; frames = h.frames; threads = one_more w.next_thread h.threads none; instances = h.instances; targets = h.targets };
     evaluates = λ w v inputs h. goes_all (values v inputs w.words) _ (λ d. record { devices = h.devices; frames = h.frames; threads = h.threads; instances = h.instances; targets = h.targets });
-    rows = λ w t s c a x stands h e applies. goes_is (row p (command_of s) a t.of t.serial c w) (λ y. Legal y.world) x e (row_keeps p stands.target (command_of s) a t.of t.serial c w stands.hosted h);
+    rows = λ w t s c a x stands named h e applies. goes_is (row p (command_of s) a t.of t.serial c w) (λ y. Legal y.world) x e (row_keeps p stands.target (command_of s) a t.of t.serial c w stands.hosted h);
     drops = λ w n h. scenes w (questions_dropped n (scene_of w)) (dropped_kept n (scene_of w) h.devices) h;
     stops = λ w live h. let rest = with_rest w.devices w.devices.answer w.devices.button w.devices.turbo [] h.devices in
         record { devices = with_timers (record w.devices { questions = [] }) [] tt rest; frames = h.frames; threads = h.threads; instances = h.instances; targets = h.targets };
