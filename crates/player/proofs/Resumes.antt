@@ -19,7 +19,7 @@ use Rattle.saved_rules.specs.Refusals.{IsRefused, IsAccepted as IsSavedRun}
 use Rattle.saved_rules.specs.RunShapes.{Told}
 use Rattle.saved_rules.specs.declared.refusals.SaveRefusal.{SaveRefusal}
 use Rattle.saved_rules.specs.declared.refusals.SaveRefusal.TheVariants as save_refusal
-use Rattle.run_save.specs.Worlds.{world_told}
+use Rattle.legal_runs.specs.Worlds.{world_told}
 use Rattle.player.specs.Command.{ResumeForm}
 use Rattle.player.specs.Limits.{project_limit, saved_limit, script_limit}
 use Rattle.player.specs.Promise.{Loading, refused, accepted, Bases, Continuing, rejected, continued, Continues, OfFile, OfSaved, too_large, not_continued, unloaded, Outcome, ends, all_of, fetched, loaded, told_to, output_from, text_from, text_of_run, resume_outcome, IsFetched, IsLoaded, IsReady, AnswerCause, FaultCause, HidesNothing, IsUnshelved, CallsOf}
@@ -35,7 +35,7 @@ use Rattle.player.proofs.Programs.{one_program_of}
 
 -- what is gone on with is one thing, or one refusal
 
-one_basis : (bytes : List ℕ) (b c : Basis) → Bases bytes (accepted b) → Bases bytes (accepted c) → c ≡ b
+pub one_basis : (bytes : List ℕ) (b c : Basis) → Bases bytes (accepted b) → Bases bytes (accepted c) → c ≡ b
 one_basis bytes b c p q =
     let file : q.0 ≡ p.0 = one_file json_laws bytes q.0 p.0 q.1 p.1 in
     let program : c.program ≡ b.program = one_program_of p.0 c.program b.program (subst (λ f. IsProgram f c.program) file q.2) p.2 in

@@ -27,7 +27,7 @@ use Rattle.project_file.specs.Reading.{File, blocks_in}
 use Rattle.project_file.specs.Refusals.{IsRefusal, IsAccepted, IsProgram, IsProject}
 use Rattle.project_file.specs.declared.refusals.Refusal.{Refusal}
 use Rattle.project_check.specs.Counts.{block_count}
-use Rattle.run_save.specs.Worlds.{world_told}
+use Rattle.legal_runs.specs.Worlds.{world_told}
 use Rattle.saved_rules.specs.Basis.{Basis}
 use Rattle.saved_rules.specs.Refusals.{IsRefused, IsAccepted as IsSavedRun}
 use Rattle.saved_rules.specs.RunShapes.{Told}
@@ -458,3 +458,28 @@ Promised held (check project) fact =
 -- the words ask for something
 abbrev pub Asked : List (List ℕ) → (Command → Type 0) → Type 0
 Asked words fact = IfSome (command_of words) fact
+
+-- 8. What is saved is accepted again
+
+-- the text is a saved run of the project file, under this seed, and tells this world, but for its redraw request, which
+-- lasts no longer than a frame
+pub record TellsAgain (b : Basis) (project : List ℕ) (seed : ℕ) (last : World Task) (text : List ℕ) : Type 0 where
+  pub told_run : Told
+  pub accepted_again : IsSavedRun b (sha256 project) text told_run
+  pub same_seed : told_run.run.seed ≡ seed
+  pub same_world : world_told b told_run ≡ record last { redraw = false }
+
+-- so is the text that is put for the last world of a run
+abbrev pub SavesAgain : Basis → (project : List ℕ) → (seed : ℕ) → Outcome → Type 0
+SavesAgain b project seed o = (last : World Task) (text : List ℕ) → o.ending ≡ ran (Whole last) → o.saved ≡ Some text → TellsAgain b project seed last text
+
+-- after Done, of what was played and of what was gone on with
+abbrev pub Resumable : Option Files → Command → Status → Type 0
+Resumable held (play form) Done =
+    IfSome held (λ files. (project : List ℕ) (b : Basis) → get files form.project ≡ Some project → Bases project (accepted b)
+    → SavesAgain b project form.seed (outcome_of files form (accepted b.program)))
+Resumable held (resume form) Done =
+    IfSome held (λ files. (project bytes : List ℕ) (b : Basis) (t : Told) → get files form.project ≡ Some project → Bases project (accepted b)
+    → get files form.saved ≡ Some bytes → Continues b project bytes (continued t)
+    → SavesAgain b project t.run.seed (resume_outcome files form (accepted b) (continued t)))
+Resumable held command status = Unit {0}

@@ -1,11 +1,13 @@
 -- Helpers of private functions: how the play of a run ends, with its saving.
-use Rattle.std.specs.Prelude.{◌≡◌, ◌⊎◌, ℕ, ◌≤◌, List, Option, ⊤}
+use Rattle.std.specs.Prelude.{◌≡◌, ◌⊎◌, ℕ, ◌≤◌, List, Option, Some, ⊤}
 use Rattle.sv_channels.specs.Counts.{Rose, NoneRose}
 use Rattle.sv_channels.specs.Files.{Files}
 use Rattle.sv_channels.specs.Shelf.{Puts, KeepsOthers}
-use Rattle.script_machine.specs.Output.{Output, Whole}
+use Rattle.script_machine.specs.Output.{Output, Ending as RunEnding, Whole}
 use Rattle.script_machine.specs.Tasks.{Task}
 use Rattle.script_machine.specs.World.{World}
+use Rattle.saved_text.specs.Ranges.{IsRun, IsTask}
+use Rattle.saved_text.specs.Saved.{snapshot}
 use Rattle.player.specs.Promise.{Outcome, PutFailed, Shelved, Wrote, Writes, counted, puts_of}
 use Rattle.player.specs.Stages.{PlayedSteadily, PlayedTo}
 use Rattle.player.specs.declared.status.Status.{Status}
@@ -70,3 +72,8 @@ pub record EndsAs (save : Option (List ℕ)) (o : Outcome) (s t : ShelfNow) (k l
   pub writes : Writes k.calls l.calls (PutFailed s.put_faults t.put_faults save) o.texts status
   pub calls : PutsCalled s.calls t.calls (puts_of save) status
   pub shelf : Shelved s.held t.held (PutFailed s.put_faults t.put_faults save) save o status
+
+-- after Done a run that was saved is in the ranges of its types
+abbrev pub SavesInRange : (digest : List ℕ) → (seed : ℕ) → (save : Option (List ℕ)) → RunEnding → Status → Type 0
+SavesInRange digest seed (Some name) (Whole last) Done = IsRun IsTask (snapshot digest seed last)
+SavesInRange digest seed save ending status = Unit {0}

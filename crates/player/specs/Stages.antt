@@ -21,7 +21,7 @@ use Rattle.saved_rules.specs.Basis.{Basis}
 use Rattle.saved_rules.specs.Refusals.{IsAccepted, IsRefused}
 use Rattle.saved_rules.specs.RunShapes.{Told as SavedRun}
 use Rattle.saved_rules.specs.declared.refusals.SaveRefusal.{SaveRefusal}
-use Rattle.run_save.specs.Worlds.{world_told}
+use Rattle.legal_runs.specs.Worlds.{world_told}
 use Rattle.player.specs.Told.{text_of_refusal, text_of_save_refusal}
 use Rattle.player.specs.Promise.{Loading, refused, accepted, counted, Ending, ran, is_whole, ending_at, limit_save_line}
 use Rattle.player.specs.declared.status.Limit.{Limit as LimitMet}

@@ -1,21 +1,23 @@
 //! Playing a run to the end of its script, and saving it.
 
-ghost use Rattle.std.specs.Prelude.{◌≡◌, ◌≤◌, [], length, Some};
+ghost use Rattle.std.specs.Prelude.{◌≡◌, ◌≤◌, [], length, IfOk, Some};
 ghost use Rattle.sv_channels.specs.Counts.{next_count, Rose, NoneRose};
 ghost use Rattle.script_machine.specs.Output.{Whole, ends, played};
 ghost use Rattle.script_machine.specs.ScriptText.{lines_of};
 ghost use Rattle.project_check.specs.Loaded.{program_of};
+ghost use Rattle.saved_text.specs.Ranges.{IsRun, IsTask};
+ghost use Rattle.saved_text.specs.Saved.{snapshot};
 ghost use Rattle.saved_text.specs.Saving.{IsSaved, longest};
 ghost use Rattle.sequencer.specs.Runs.{world_of, IsRunOf};
 ghost use Rattle.player.specs.Command.{name_to_save};
 ghost use Rattle.player.specs.Limits.{script_limit};
 ghost use Rattle.player.specs.Promise.{all_of, output_of, put_or_told, text_from, words_of};
-ghost use Rattle.player.specs.Saving.{EndsAs, PutEnds, PutSteadily, shelf_now, sink_now};
+ghost use Rattle.player.specs.Saving.{EndsAs, PutEnds, PutSteadily, SavesInRange, shelf_now, sink_now};
 
 use crate::lines::{play_lines, tell_limit};
 use crate::status::{Limit, Status};
 use project_check::Project;
-use saved_text::{SaveStop, SavedRun, a_saved_run_is_its_world, save};
+use saved_text::{SaveStop, SavedRun, a_saved_run_is_its_world, save, what_is_left_is_in_range};
 use script_words::{Rng, pcg};
 use sequencer::Run;
 use std::alloc::Global;
@@ -36,9 +38,11 @@ fn text_of<R: Rng + Drop>(
     origin: Origin,
 ) -> Result<Vec<u8>, SaveStop>
     requires { IsRunOf project.now run.now }
-    ensures { IsSaved longest (text_from origin.digest origin.seed (world_of R.stream project.now run.now)) result }
+    ensures text { IsSaved longest (text_from origin.digest origin.seed (world_of R.stream project.now run.now)) result }
+    ensures ranges { IfOk result (λ _. IsRun IsTask (snapshot origin.digest origin.seed (world_of R.stream project.now run.now))) }
 {
     a_saved_run_is_its_world();
+    what_is_left_is_in_range();
     let digest = origin.digest;
     let variables = run.variables();
     let saved = SavedRun {
@@ -83,7 +87,8 @@ fn save_run<R: Rng + Drop, H: Shelf, K: Sink>(
     out: &mut K,
 ) -> Status
     requires { IsRunOf project.now run.now }
-    ensures { EndsAs (Some save.now) (put_or_told (text_from origin.digest origin.seed (world_of R.stream project.now run.now)) [] (Whole (world_of R.stream project.now run.now))) (shelf_now H.held H.fetch_faults H.put_faults H.calls shelf.old) (shelf_now H.held H.fetch_faults H.put_faults H.calls shelf.new) (sink_now K.written K.faults K.calls out.old) (sink_now K.written K.faults K.calls out.new) result }
+    ensures ends { EndsAs (Some save.now) (put_or_told (text_from origin.digest origin.seed (world_of R.stream project.now run.now)) [] (Whole (world_of R.stream project.now run.now))) (shelf_now H.held H.fetch_faults H.put_faults H.calls shelf.old) (shelf_now H.held H.fetch_faults H.put_faults H.calls shelf.new) (sink_now K.written K.faults K.calls out.old) (sink_now K.written K.faults K.calls out.new) result }
+    ensures ranges { SavesInRange origin.digest origin.seed (Some save.now) (Whole (world_of R.stream project.now run.now)) result }
 {
     match text_of(alloc, project, run, origin) {
         Ok(text) => put_text(alloc, save, &text, shelf),
@@ -103,7 +108,8 @@ fn end<R: Rng + Drop, H: Shelf, K: Sink>(
     out: &mut K,
 ) -> Status
     requires { IsRunOf project.now run.now }
-    ensures { EndsAs (name_to_save save.now) (all_of (name_to_save save.now) (text_from origin.digest origin.seed) (ends [] (Whole (world_of R.stream project.now run.now)))) (shelf_now H.held H.fetch_faults H.put_faults H.calls shelf.old) (shelf_now H.held H.fetch_faults H.put_faults H.calls shelf.new) (sink_now K.written K.faults K.calls out.old) (sink_now K.written K.faults K.calls out.new) result }
+    ensures ends { EndsAs (name_to_save save.now) (all_of (name_to_save save.now) (text_from origin.digest origin.seed) (ends [] (Whole (world_of R.stream project.now run.now)))) (shelf_now H.held H.fetch_faults H.put_faults H.calls shelf.old) (shelf_now H.held H.fetch_faults H.put_faults H.calls shelf.new) (sink_now K.written K.faults K.calls out.old) (sink_now K.written K.faults K.calls out.new) result }
+    ensures ranges { SavesInRange origin.digest origin.seed (name_to_save save.now) (Whole (world_of R.stream project.now run.now)) result }
 {
     if save == "-" {
         Status::Done
@@ -125,7 +131,8 @@ pub(crate) fn play_on<R: Rng + Drop, H: Shelf, K: Sink>(
 ) -> Status
     requires fits { IsRunOf project.now run.old }
     requires few { length script.now ≤ script_limit }
-    ensures { EndsAs (name_to_save save.now) (all_of (name_to_save save.now) (text_from origin.digest origin.seed) (played (program_of project.now) 1 run.old.state.devices.clock (world_of R.stream project.now run.old) (lines_of script.now))) (shelf_now H.held H.fetch_faults H.put_faults H.calls shelf.old) (shelf_now H.held H.fetch_faults H.put_faults H.calls shelf.new) (sink_now K.written K.faults K.calls out.old) (sink_now K.written K.faults K.calls out.new) result }
+    ensures ends { EndsAs (name_to_save save.now) (all_of (name_to_save save.now) (text_from origin.digest origin.seed) (played (program_of project.now) 1 run.old.state.devices.clock (world_of R.stream project.now run.old) (lines_of script.now))) (shelf_now H.held H.fetch_faults H.put_faults H.calls shelf.old) (shelf_now H.held H.fetch_faults H.put_faults H.calls shelf.new) (sink_now K.written K.faults K.calls out.old) (sink_now K.written K.faults K.calls out.new) result }
+    ensures ranges { SavesInRange origin.digest origin.seed (name_to_save save.now) (played (program_of project.now) 1 run.old.state.devices.clock (world_of R.stream project.now run.old) (lines_of script.now)).ending result }
 {
     match play_lines(alloc, project, run, script, out) {
         Status::Done => end(alloc, project, run, origin, save, shelf, out),
@@ -144,7 +151,8 @@ pub(crate) fn play_first<H: Shelf, K: Sink>(
     out: &mut K,
 ) -> Status
     requires { length script.now ≤ script_limit }
-    ensures { EndsAs (name_to_save save.now) (all_of (name_to_save save.now) (text_from origin.digest origin.seed) (output_of (program_of project.now) (words_of origin.seed) script.now)) (shelf_now H.held H.fetch_faults H.put_faults H.calls shelf.old) (shelf_now H.held H.fetch_faults H.put_faults H.calls shelf.new) (sink_now K.written K.faults K.calls out.old) (sink_now K.written K.faults K.calls out.new) result }
+    ensures ends { EndsAs (name_to_save save.now) (all_of (name_to_save save.now) (text_from origin.digest origin.seed) (output_of (program_of project.now) (words_of origin.seed) script.now)) (shelf_now H.held H.fetch_faults H.put_faults H.calls shelf.old) (shelf_now H.held H.fetch_faults H.put_faults H.calls shelf.new) (sink_now K.written K.faults K.calls out.old) (sink_now K.written K.faults K.calls out.new) result }
+    ensures ranges { SavesInRange origin.digest origin.seed (name_to_save save.now) (output_of (program_of project.now) (words_of origin.seed) script.now).ending result }
 {
     let Ok(mut run) = Run::open(alloc, project, pcg(origin.seed, 0)) else {
         return Status::NoMemory;

@@ -3,7 +3,7 @@
 ghost use Rattle.std.specs.Prelude.{◌≡◌, ◌≢◌, ◌⊎◌, ◌↔◌, ◌≤◌, ◌<◌, ◌^◌, map, string_bytes, None};
 ghost use Rattle.sv_channels.specs.Counts.{Rose};
 ghost use Rattle.player.specs.Command.{play as play_of, resume as resume_of, check as check_of, command_of, name_to_save};
-ghost use Rattle.player.specs.Promise.{FetchFailed, PutFailed, SavedFailed, FaultCause, AnswerCause, HidesNothing, Tells, Wrote, IsSilent, Shelved, IsUnshelved, UnshelvedFor, Calls, CallsFor, Writes, Promised, Asked, name_of_save, puts_of, project_name, told, told_counts};
+ghost use Rattle.player.specs.Promise.{FetchFailed, PutFailed, SavedFailed, FaultCause, AnswerCause, HidesNothing, Tells, Wrote, IsSilent, Shelved, IsUnshelved, UnshelvedFor, Calls, CallsFor, Writes, Promised, Asked, Resumable, name_of_save, puts_of, project_name, told, told_counts};
 ghost use Rattle.player.specs.Stages.{PlayedTo, PlayedSteadily};
 
 use crate::command::{Command, command_of};
@@ -42,6 +42,7 @@ fn run<H: Shelf, K: Sink>(
     ensures honest { HidesNothing (H.fetch_faults shelf.old) (H.fetch_faults shelf.new) (H.put_faults shelf.old) (H.put_faults shelf.new) (K.faults out.old) (K.faults out.new) result }
     ensures calls { Calls (H.calls shelf.old) (H.calls shelf.new) 2 (puts_of (name_to_save save.now)) result }
     ensures writes { Promised (H.held shelf.old) (play_of (record { project = project.now; script = script.now; seed = seed; save = name_to_save save.now })) (λ o. Writes (K.calls out.old) (K.calls out.new) (PutFailed (H.put_faults shelf.old) (H.put_faults shelf.new) (name_to_save save.now)) o.texts result) }
+    ensures resumable { Resumable (H.held shelf.old) (play_of (record { project = project.now; script = script.now; seed = seed; save = name_to_save save.now })) result }
 {
     let file = match fetch(alloc, shelf, project, Which::Project, PROJECT_LIMIT) {
         Ok(bytes) => bytes,
@@ -80,6 +81,7 @@ fn resume<H: Shelf, K: Sink>(
     ensures honest { HidesNothing (H.fetch_faults shelf.old) (H.fetch_faults shelf.new) (H.put_faults shelf.old) (H.put_faults shelf.new) (K.faults out.old) (K.faults out.new) result }
     ensures calls { Calls (H.calls shelf.old) (H.calls shelf.new) 3 (puts_of (name_to_save save.now)) result }
     ensures writes { Promised (H.held shelf.old) (resume_of (record { project = project.now; saved = saved.now; script = script.now; save = name_to_save save.now })) (λ o. Writes (K.calls out.old) (K.calls out.new) (PutFailed (H.put_faults shelf.old) (H.put_faults shelf.new) (name_to_save save.now)) o.texts result) }
+    ensures resumable { Resumable (H.held shelf.old) (resume_of (record { project = project.now; saved = saved.now; script = script.now; save = name_to_save save.now })) result }
 {
     one_answer_at_most();
     let file = match fetch(alloc, shelf, project, Which::Project, PROJECT_LIMIT) {
@@ -194,6 +196,9 @@ pub fn play<H: Shelf, K: Sink>(
         Shelved (H.held shelf.old) (H.held shelf.new) (PutFailed (H.put_faults shelf.old) (H.put_faults shelf.new) (name_of_save command)) (name_of_save command) o result)) }
     ensures held { UnshelvedFor (H.held shelf.old) (H.held shelf.new) (command_of (map string_bytes words.now)) result }
     ensures calls { CallsFor (H.calls shelf.old) (H.calls shelf.new) (command_of (map string_bytes words.now)) result }
+
+    // What was saved is accepted again, and tells the last world of the run.
+    ensures resumable { Asked (map string_bytes words.now) (λ command. Resumable (H.held shelf.old) command result) }
 {
     match command_of(words) {
         None => Status::Usage,

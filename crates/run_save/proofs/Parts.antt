@@ -36,7 +36,8 @@ use Rattle.saved_rules.specs.declared.refusals.SaveRefusal.TheVariants.{Json, Ve
 use Rattle.rand_core.specs.Stream.{Stream}
 use Rattle.run_save.specs.Loading.{Makes}
 use Rattle.run_save.specs.Parts.{AllParted, AreParts, IsPart, IsReady, Parted, first_bad}
-use Rattle.run_save.specs.Worlds.{AllTold, items_told, task_told, warp_told}
+use Rattle.legal_runs.specs.Worlds.{items_told, task_told, warp_told}
+use Rattle.run_save.specs.Worlds.{AllTold}
 use Rattle.run_save.proofs.Worlds.{same_task}
 
 -- the flag of a legal thread is that of its place

@@ -21,7 +21,8 @@ use Rattle.sequencer.specs.Runs.{world_of, IsRunOf}
 use Rattle.sequencer.specs.declared.run.Run.{Run}
 use Rattle.run_save.specs.Loading.{IsRunTold}
 use Rattle.run_save.specs.Parts.{AreParts}
-use Rattle.run_save.specs.Worlds.{words_after, world_told}
+use Rattle.legal_words.specs.Words.{words_after}
+use Rattle.legal_runs.specs.Worlds.{world_told}
 use Rattle.run_save.proofs.Keeping.{all_ready, frames_below, free, people, threads_below}
 use Rattle.run_save.proofs.Parts.{all_alive, all_fit, all_live, tasks_are}
 use Rattle.run_save.proofs.Worlds.{same_world}

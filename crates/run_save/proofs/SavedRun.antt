@@ -1,5 +1,5 @@
 -- The text of a saved run is that of the machine's world.
-use Rattle.std.proofs.Common.{◌≡◌, ℕ, List, false, sym, ap, ◌∙◌}
+use Rattle.std.proofs.Common.{◌≡◌, ℕ, List, false, sym, ap, ◌∙◌, subst}
 use Rattle.std.specs.List.{All}
 use Rattle.rand_core.specs.Stream.{Stream}
 use Rattle.hex.specs.Hex.{encode_lower}
@@ -13,7 +13,8 @@ use Rattle.thread_frames.specs.Threads.{Thread}
 use Rattle.executions.specs.Seen.{sheets}
 use Rattle.sequencer.specs.Runs.{world_of, IsRunOf}
 use Rattle.sequencer.specs.declared.run.Run.{Run}
-use Rattle.saved_text.specs.Laws.{IsKept, SavesWhatIsLeft}
+use Rattle.saved_text.specs.Laws.{IsKept, RangesOfWhatIsLeft, SavesWhatIsLeft}
+use Rattle.saved_text.specs.Ranges.{IsRun, IsTask, IsThread}
 use Rattle.saved_text.specs.Saved.{Snapshot, snapshot, saved, saved_text}
 use Rattle.saved_text.specs.Tasks.{task}
 use Rattle.saved_text.specs.Threads.{thread}
@@ -74,3 +75,11 @@ is_text_of_run stream p s r digest seed law run h =
     let kept = all_kept (sheets p) w.threads.list run.idle.resting.kept.threads.all.listed run.idle.alive in
     ap (λ x. compact_text (saved thread x)) (seen_parts stream s r digest seed h)
     ∙ ap compact_text (sym (law (sheets p) digest seed w kept))
+
+-- what the types say of its parts is true of its world
+pub ranges_of_run : {R : Type 0} (stream : R → Stream) (p : Project) (s : Snapshot Thread) (r : Run R) (digest : List ℕ) (seed : ℕ) → RangesOfWhatIsLeft → IsRunOf p r → HasParts s r digest seed (levels_world stream r).words.drawn
+    → IsRun IsThread s → IsRun IsTask (snapshot digest seed (world_of stream p r))
+ranges_of_run stream p s r digest seed law run h ranges =
+    let w = levels_world stream r in
+    let kept = all_kept (sheets p) w.threads.list run.idle.resting.kept.threads.all.listed run.idle.alive in
+    law (sheets p) digest seed w kept (subst (IsRun IsThread) (seen_parts stream s r digest seed h) ranges)

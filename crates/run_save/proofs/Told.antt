@@ -15,7 +15,8 @@ use Rattle.saved_rules.specs.Legal.{told}
 use Rattle.saved_rules.specs.Rules.{is_key_name}
 use Rattle.saved_rules.specs.RunShapes.{Told}
 use Rattle.saved_text.specs.Saved.{snapshot}
-use Rattle.run_save.specs.Worlds.{AllTold, task_told, world_told}
+use Rattle.legal_runs.specs.Worlds.{task_told, world_told}
+use Rattle.run_save.specs.Worlds.{AllTold}
 
 -- keys by their names
 

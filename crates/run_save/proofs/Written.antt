@@ -21,7 +21,8 @@ use Rattle.sequencer.specs.Runs.{world_of}
 use Rattle.sequencer.specs.declared.run.Run.{Run}
 use Rattle.run_save.specs.Loading.{IsRunTold, Makes}
 use Rattle.run_save.specs.Steps.{IsTold}
-use Rattle.run_save.specs.Worlds.{AllTold, world_told}
+use Rattle.legal_runs.specs.Worlds.{world_told}
+use Rattle.run_save.specs.Worlds.{AllTold}
 use Rattle.run_save.proofs.Judging.{refused_thread}
 use Rattle.run_save.proofs.Keeping.{keys_named}
 use Rattle.run_save.proofs.Told.{told_again}

@@ -10,7 +10,8 @@ use Rattle.saved_rules.specs.declared.refusals.SaveRefusal.{SaveRefusal}
 use Rattle.saved_rules.specs.declared.refusals.SaveRefusal.TheVariants.{BadThread, NoMemory}
 use Rattle.sequencer.specs.Runs.{world_of, IsRunOf}
 use Rattle.sequencer.specs.declared.run.Run.{Run}
-use Rattle.run_save.specs.Worlds.{AllTold, world_told}
+use Rattle.legal_runs.specs.Worlds.{world_told}
+use Rattle.run_save.specs.Worlds.{AllTold}
 
 -- a run of this project whose world is the one that is told
 pub record IsRunTold {R : Type 0} (stream : R → Stream) (p : Project) (t : Told) (run : Run R) : Type 0 where

@@ -9,7 +9,7 @@ pub returns : goal.returns
 returns c =
     c.difference.ensures
     ∙ ap (first_difference c.args.bytes.now)
-    (c.deref.ensures.value ∙ c.in_ok-text.ensures
+    (c.deref.ensures.value ∙ c.in_ok-text.ensures.text
     ∙ is_text_of_run answers c.args.project.now _ c.args.run.now c.args.digest.now c.args.seed c.a_saved_run_is_its_world.ensures c.requires
     (record {
       project = refl;
