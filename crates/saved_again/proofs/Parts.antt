@@ -55,5 +55,8 @@ map-same [] = refl
 map-same (x ∷ xs) = ap (λ more. x ∷ more) (map-same xs)
 
 module _ {A : Type 0} (read : Reader Data A) (write : A → Data) (P : A → Type 0) (one : (at : List (List ℕ)) (a : A) → P a → read at (write a) ≡ Ok a) where
+  pub each_from_same : (i : ℕ) (at : List (List ℕ)) (xs : List A) → All P xs → shapes.each_from i read at (map write xs) ≡ Ok xs
+  each_from_same i at xs h = each_from_read read write (λ x. x) P one i at xs h ∙ ap Ok (map-same xs)
+
   pub each_same : (at : List (List ℕ)) (xs : List A) → All P xs → shapes.each read at (rows.each write xs) ≡ Ok xs
   each_same at xs h = each_read read write (λ x. x) P one at xs h ∙ ap Ok (map-same xs)

@@ -1,0 +1,1 @@
+-- The threads of a saved run are read as they were written.
