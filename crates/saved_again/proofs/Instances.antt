@@ -13,7 +13,7 @@ use Rattle.script_machine.specs.declared.instance.Instance.{Instance}
 use Rattle.script_machine.specs.declared.instance.Style.{Style}
 use Rattle.script_machine.specs.declared.instance.Style.TheVariants.{AllAround, LeftRight, DontRotate}
 use Rattle.saved_text.specs.Instances as instances
-use Rattle.saved_text.specs.Ranges.{IsInstance, IsValue}
+use Rattle.saved_text.specs.Ranges.{HasInstance, IsValue}
 use Rattle.saved_text.specs.Rows as rows
 use Rattle.saved_text.specs.Values as values
 use Rattle.saved_rules.specs.InstanceShapes as shapes
@@ -35,7 +35,7 @@ style_read at DontRotate = refl
 edges_read : (at : List (List ℕ)) (es : List (ℕ × Bool)) → shapes.rises (map (λ e. e.0) es) ≡ true → shapes.edges at (rows.each instances.edge es) ≡ Ok es
 edges_read at es h = rw (each_same shapes.edge instances.edge (λ _. Unit {0}) (λ at e _. refl) at es (λ k d lt. tt), h) refl
 
-effects_are : (es : List Num) → length es ≡ 7 → instances.effect_numbers es ≡ es
+pub effects_are : (es : List Num) → length es ≡ 7 → instances.effect_numbers es ≡ es
 effects_are [] h = absurd (omega arith)
 effects_are (a ∷ []) h = absurd (omega arith)
 effects_are (a ∷ b ∷ []) h = absurd (omega arith)
@@ -54,18 +54,19 @@ effects_read at es h all =
 values_read : (at : List (List ℕ)) (vs : List Value) → All IsValue vs → each value at (rows.each values.value vs) ≡ Ok vs
 values_read at vs h = each_same value values.value IsValue value_read at vs h
 
-pub instance_read : (at : List (List ℕ)) (i : Instance) (vs : List Value) (ls : List (List Value)) → IsInstance i → shapes.rises (map (λ e. e.0) i.edges) ≡ true → All IsValue vs → All (All IsValue) ls
+pub instance_read : (at : List (List ℕ)) (i : Instance) (vs : List Value) (ls : List (List Value)) → HasInstance i vs ls → shapes.rises (map (λ e. e.0) i.edges) ≡ true
     → shapes.instance at (instances.instance_of i vs ls) ≡ Ok (record { instance = i; store = record { of = i.number; values = vs; lists = ls } })
 unfolding instances.instance_of
-instance_read at i vs ls h up all_values all_lists =
+instance_read at i vs ls has up =
+    let h = has.itself in
     rw (bubble_read (codes "bubble" ∷ at) i.bubble,
       num_read (codes "direction" ∷ at) i.direction h.direction,
       num_read (codes "size" ∷ at) i.size h.size,
       num_read (codes "x" ∷ at) i.x h.x,
       num_read (codes "y" ∷ at) i.y h.y,
       edges_read (codes "edges" ∷ at) i.edges up,
-      effects_read (codes "effects" ∷ at) i.effects h.seven h.effects,
-      each_same (each value) (rows.each values.value) (All IsValue) values_read (codes "lists" ∷ at) ls all_lists,
+      effects_read (codes "effects" ∷ at) i.effects h.effects.seven h.effects.within,
+      each_same (each value) (rows.each values.value) (All IsValue) values_read (codes "lists" ∷ at) ls has.its_lists,
       style_read (codes "style" ∷ at) i.style,
-      values_read (codes "variables" ∷ at) vs all_values)
+      values_read (codes "variables" ∷ at) vs has.its_values)
     refl
