@@ -1,8 +1,6 @@
 -- The instances of a saved run are read as they were written.
-use Rattle.std.proofs.Common.{◌≡◌, ℕ, suc, List, [], ◌∷◌, length, map, Bool, true, if◌then◌else◌, Option, Some, None, Ok, codes, refl, sym, ap, ◌∙◌, subst, arith}
-use Rattle.std.specs.Fmt.{decimal}
+use Rattle.std.proofs.Common.{◌≡◌, ℕ, List, [], ◌∷◌, length, map, Bool, true, Ok, codes, refl, sym, ap, ◌∙◌, subst, arith}
 use Rattle.std.specs.List.{All}
-use Rattle.serde_json.specs.Data.{Data}
 use Rattle.scratch_number.specs.Number.{IsWithin}
 use Rattle.scratch_number.specs.declared.number.Num.{Num}
 use Rattle.scratch_values.specs.declared.value.Value.{Value}
@@ -59,7 +57,8 @@ pub instance_read : (at : List (List ℕ)) (i : Instance) (vs : List Value) (ls 
 unfolding instances.instance_of
 instance_read at i vs ls has up =
     let h = has.itself in
-    rw (bubble_read (codes "bubble" ∷ at) i.bubble,
+    rw (
+      bubble_read (codes "bubble" ∷ at) i.bubble,
       num_read (codes "direction" ∷ at) i.direction h.direction,
       num_read (codes "size" ∷ at) i.size h.size,
       num_read (codes "x" ∷ at) i.x h.x,
@@ -68,5 +67,6 @@ instance_read at i vs ls has up =
       effects_read (codes "effects" ∷ at) i.effects h.effects.seven h.effects.within,
       each_same (each value) (rows.each values.value) (All IsValue) values_read (codes "lists" ∷ at) ls has.its_lists,
       style_read (codes "style" ∷ at) i.style,
-      values_read (codes "variables" ∷ at) vs has.its_values)
+      values_read (codes "variables" ∷ at) vs has.its_values,
+    )
     refl

@@ -1,14 +1,11 @@
 -- Runs are read as they were written.
-use Rattle.std.proofs.Common.{◌≡◌, ℕ, ◌==◌, List, [], ◌∷◌, map, filter_map, Bool, true, false, if◌then◌else◌, Option, Some, None, Ok, codes, refl, sym, ap, ◌∙◌, subst, arith}
-use Rattle.std.proofs.lemmas.List.Elements.{All-head, All-tail, All-nil}
+use Rattle.std.proofs.Common.{◌≡◌, ℕ, List, [], ◌∷◌, map, filter_map, true, Some, Ok, codes, refl, ap}
+use Rattle.std.proofs.lemmas.List.Elements.{All-head, All-tail}
 use Rattle.std.specs.Fmt.{decimal}
-use Rattle.std.specs.List.{All, find}
-use Rattle.std.specs.Prelude.{unwrap_or}
-use Rattle.serde_json.specs.Data.{Data, string, boolean}
-use Rattle.scratch_values.specs.declared.value.Value.{Value}
+use Rattle.std.specs.List.{All}
+use Rattle.serde_json.specs.Data.{string, boolean}
 use Rattle.script_machine.specs.declared.devices.BubbleTimer.{BubbleTimer}
 use Rattle.script_machine.specs.declared.devices.Key.{Key}
-use Rattle.script_machine.specs.declared.devices.Question.{Question}
 use Rattle.script_machine.specs.declared.instance.Instance.{Instance}
 use Rattle.script_machine.specs.declared.variables.Made.{Made}
 use Rattle.script_machine.specs.declared.variables.Shown.{Shown}
@@ -21,14 +18,13 @@ use Rattle.script_machine.specs.Tasks.{Task}
 use Rattle.saved_text.specs.Devices as devices
 use Rattle.saved_text.specs.Instances as instances
 use Rattle.saved_text.specs.Monitors as monitors
-use Rattle.saved_text.specs.Ranges.{IsStanding, IsTimer, AreDevices, IsRun, IsTask}
-use Rattle.saved_text.specs.Rows as rows
+use Rattle.saved_text.specs.Ranges.{IsStanding, IsTimer, AreDevices}
 use Rattle.saved_text.specs.Saved.{Snapshot, saved}
 use Rattle.saved_rules.specs.InstanceShapes as instance_shapes
 use Rattle.saved_rules.specs.Kept as kept
 use Rattle.saved_rules.specs.Legal.{told}
 use Rattle.saved_rules.specs.RunShapes as shapes
-use Rattle.saved_rules.specs.Shapes.{each, text, truth}
+use Rattle.saved_rules.specs.Shapes.{text, truth}
 use Rattle.saved_rules.specs.ThreadShapes as thread_shapes
 use Rattle.saved_again.specs.Told.{store_told, CanBeTold}
 use Rattle.saved_again.proofs.Instances.{instance_read}
@@ -81,8 +77,9 @@ stores_told stores (i ∷ is) = ap (λ more. store_told stores i ∷ more) (stor
 pub run_read : (s : Snapshot Task) → CanBeTold s → shapes.run [] (saved kept.thread (told s).run) ≡ Ok (told s)
 unfolding saved CanStand
 run_read s h =
-    rw (each_read instance_shapes.instance (instances.instance s.variables.stores) (standing s.variables.stores) (CanStand s.variables.stores) (standing_read s.variables.stores)
-        (codes "instances" ∷ []) s.targets (λ k d lt. (h.ranges.targets k d lt, h.edges k d lt)),
+    rw (
+      each_read instance_shapes.instance (instances.instance s.variables.stores) (standing s.variables.stores) (CanStand s.variables.stores) (standing_read s.variables.stores)
+          (codes "instances" ∷ []) s.targets (λ k d lt. (h.ranges.targets k d lt, h.edges k d lt)),
       each_read text devices.key key_name (λ _. Unit {0}) (λ at k _. refl) (codes "keys" ∷ []) s.devices.keys (λ k d lt. tt),
       each_same shapes.made monitors.made (λ _. Unit {0}) (λ at m _. made_read at m) (codes "made" ∷ []) s.variables.made (λ k d lt. tt),
       each_same truth boolean (λ _. Unit {0}) (λ at b _. refl) (codes "monitors" ∷ []) s.variables.file_monitors (λ k d lt. tt),
@@ -94,5 +91,6 @@ run_read s h =
       instances_told s.variables.stores s.targets,
       stores_told s.variables.stores s.targets,
       h.stores,
-      keys_are s.devices.keys h.keys)
+      keys_are s.devices.keys h.keys,
+    )
     refl

@@ -1,5 +1,5 @@
 -- The threads of a saved run are read as they were written.
-use Rattle.std.proofs.Common.{◌≡◌, ℕ, ◌≤◌, ◌<◌, ◌^◌, ℤ, pos, negsuc, unsigned_abs, List, [], ◌∷◌, map, filter, reverse, Bool, true, false, Option, Some, None, Ok, codes, refl, sym, ap, ◌∙◌, subst, arith}
+use Rattle.std.proofs.Common.{◌≡◌, ℕ, ◌≤◌, ◌^◌, pos, negsuc, unsigned_abs, List, [], ◌∷◌, map, filter, reverse, true, false, Option, Some, None, Ok, codes, refl, sym, subst, arith}
 use Rattle.std.proofs.lemmas.Bool.{lt-ltb, le-leb}
 use Rattle.std.proofs.lemmas.List.{reverse-append, reverse-reverse}
 use Rattle.std.proofs.lemmas.List.Elements.{All-head, All-tail, All-cons, All-nil, All-push, All-map, All-filter, filter_passes}
@@ -18,12 +18,12 @@ use Rattle.script_machine.specs.Pending.{Item, Do, Held, Returned, Branch, Again
 use Rattle.script_machine.specs.Tasks.{Task}
 use Rattle.script_machine.specs.Threads.{is_done}
 use Rattle.saved_text.specs.Contexts as contexts
-use Rattle.saved_text.specs.Ranges.{IsWhole, IsBlock, IsCount, IsWait, IsGlide, IsContext, IsParam, AreParams, IsMarker, IsFirst, AreItems, IsTask}
+use Rattle.saved_text.specs.Ranges.{IsWhole, IsBlock, IsWait, IsGlide, IsContext, IsParam, AreParams, IsMarker, IsFirst, AreItems, IsTask}
 use Rattle.saved_text.specs.Rows as rows
 use Rattle.saved_text.specs.Tasks.{is_marker}
 use Rattle.saved_text.specs.Threads.{block, thread_of, status_name}
 use Rattle.saved_rules.specs.Kept as kept
-use Rattle.saved_rules.specs.Shapes.{each, if_some, whole, num, value}
+use Rattle.saved_rules.specs.Shapes.{if_some, whole}
 use Rattle.saved_rules.specs.ThreadShapes as shapes
 use Rattle.saved_again.specs.Told.{HasFewTurns, KeepsFewTurns, IsTold}
 use Rattle.saved_again.proofs.Parts.{num_read, value_read, each_same}
@@ -67,11 +67,13 @@ param_read at p h = rw (value_read (decimal 1 ∷ at) p.1 h.1) refl
 
 glide_read : (at : List (List ℕ)) (g : GlideState) → IsGlide g → shapes.kept at (contexts.glide g) ≡ Ok (kept.Glide g)
 glide_read at g h =
-    rw (num_read (decimal 2 ∷ at) g.duration h.duration,
+    rw (
+      num_read (decimal 2 ∷ at) g.duration h.duration,
       num_read (decimal 3 ∷ at) g.x0 h.x0,
       num_read (decimal 4 ∷ at) g.y0 h.y0,
       num_read (decimal 5 ∷ at) g.x1 h.x1,
-      num_read (decimal 6 ∷ at) g.y1 h.y1)
+      num_read (decimal 6 ∷ at) g.y1 h.y1,
+    )
     refl
 
 kept_read : (at : List (List ℕ)) (k : kept.Kept) → IsKept k → shapes.kept at (kept.kept k) ≡ Ok k
@@ -105,9 +107,11 @@ all_reverse P (x ∷ xs) h = subst (All P) (sym (reverse-append (x ∷ []) xs)) 
 pub thread_read : (at : List (List ℕ)) (t : kept.SavedThread) → IsSavedThread t → shapes.thread at (kept.thread t) ≡ Ok t
 unfolding thread_of
 thread_read at t h =
-    rw (each_same shapes.level kept.level IsSavedLevel level_read (codes "levels" ∷ at) (reverse t.levels) (all_reverse IsSavedLevel t.levels h.levels),
+    rw (
+      each_same shapes.level kept.level IsSavedLevel level_read (codes "levels" ∷ at) (reverse t.levels) (all_reverse IsSavedLevel t.levels h.levels),
       status_read (codes "status" ∷ at) t.status h.alive,
-      reverse-reverse t.levels)
+      reverse-reverse t.levels,
+    )
     refl
 
 -- What is told of a thread of the machine is in range

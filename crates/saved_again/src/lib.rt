@@ -4,5 +4,6 @@
 mod laws;
 
 pub use laws::{
-    a_run_that_can_be_told_has_its_shape, a_saved_run_is_of_the_known_version, the_text_of_a_run_reads_back,
+    a_run_that_can_be_told_has_its_shape, a_saved_run_is_of_the_known_version,
+    the_text_of_a_run_reads_back,
 };
