@@ -1,7 +1,9 @@
 -- The value of a run that can be told is one whose text is read back.
-use Rattle.std.proofs.Common.{◌≡◌, ℕ, suc, ℤ, pos, negsuc, List, map, reverse, Bool, true, Option, Some, None, IsUtf8, codes, refl, subst, sym, arith}
+use Rattle.std.proofs.Common.{[], ◌∷◌, ◌≡◌, ℕ, suc, ℤ, pos, negsuc, List, map, reverse, Bool, true, Option, Some, None, IsUtf8, codes, refl, subst, sym, arith, nat_lt, length, ◌==◌}
 use Rattle.std.proofs.lemmas.Str.{IsUtf8-encode}
-use Rattle.std.specs.List.{All}
+use Rattle.std.proofs.lemmas.Bool.{and_parts}
+use Rattle.std.proofs.lemmas.Bool.Decides.{nat_tests}
+use Rattle.std.specs.List.{All, list_all}
 use Rattle.json.proofs.Printed.Utf8.{are_ascii, IsUtf8-are_ascii}
 use Rattle.serde_json.specs.Data as json
 use Rattle.serde_json.specs.Data.{boolean, string, array, item}
@@ -41,6 +43,7 @@ use Rattle.saved_text.specs.Threads.{block, thread_of, status_name}
 use Rattle.saved_text.specs.Values as values
 use Rattle.saved_rules.specs.Kept as kept
 use Rattle.saved_rules.specs.Legal.{told}
+use Rattle.saved_rules.specs.RunShapes.{is_digit, is_digest}
 use Rattle.saved_again.specs.Told.{CanBeTold}
 use Rattle.saved_again.proofs.Fitting.{Fits, ItemsFit, fits_null, fits_truth, fits_text, fits_whole, fits_row, fits_each, fits_table}
 use Rattle.saved_again.proofs.Instances.{effects_are}
@@ -264,6 +267,16 @@ thread_fits t h =
 
 -- Runs
 
+digit_plain : (c : ℕ) → is_digit c ≡ true → nat_lt c 128 ≡ true
+digit_plain c h = grind (arith, nat_tests)
+
+digits_plain : (t : List ℕ) → list_all is_digit t ≡ true → are_ascii t ≡ true
+digits_plain [] h = refl
+digits_plain (c ∷ t) h = let p = and_parts (is_digit c) (list_all is_digit t) h in rw (digit_plain c p.0) (digits_plain t p.1)
+
+digest_utf8 : (t : List ℕ) → is_digest t ≡ true → IsUtf8 t
+digest_utf8 t h = IsUtf8-are_ascii t (digits_plain t (and_parts (length t == 64) (list_all is_digit t) h).1)
+
 next_fits : (n : ℕ) (s : Snapshot Task) → (run : IsRun IsTask s) → Fits (suc n) (next s)
 next_fits n s run = fits_row n (fits_whole n s.next_thread run.next_thread, (fits_whole n s.next_instance run.next_instance, (fits_whole n s.devices.usage run.devices.usage, tt)))
 
@@ -306,7 +319,7 @@ run_fits s h =
                         next_fits 125 s run,
                         (refl, refl),
                         (
-                          fits_text 126 s.project run.project,
+                          fits_text 126 s.project (digest_utf8 s.project h.project),
                           (refl, refl),
                           (
                             fits_each 125 devices.question IsQuestion (question_fits 124) s.devices.questions d.questions,
