@@ -1,3 +1,5 @@
 pub mod Readers
 pub mod Finite
 pub mod LooksHeld
+pub mod TreesTold
+pub mod TargetsRead
