@@ -3,3 +3,4 @@ pub mod Finite
 pub mod LooksHeld
 pub mod TreesTold
 pub mod TargetsRead
+pub mod BlocksRead
