@@ -4,3 +4,4 @@ pub mod LooksHeld
 pub mod TreesTold
 pub mod TargetsRead
 pub mod BlocksRead
+pub mod FilesRead
