@@ -5,3 +5,6 @@ pub mod TreesTold
 pub mod TargetsRead
 pub mod BlocksRead
 pub mod FilesRead
+pub mod Added
+pub mod OneStage
+pub mod NamesHeld
