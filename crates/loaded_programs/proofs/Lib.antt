@@ -8,3 +8,4 @@ pub mod FilesRead
 pub mod Added
 pub mod OneStage
 pub mod NamesHeld
+pub mod Reached
