@@ -9,3 +9,4 @@ pub mod Added
 pub mod OneStage
 pub mod NamesHeld
 pub mod Reached
+pub mod NumbersHeld
