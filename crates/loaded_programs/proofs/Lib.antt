@@ -10,3 +10,4 @@ pub mod OneStage
 pub mod NamesHeld
 pub mod Reached
 pub mod NumbersHeld
+pub mod NamesShown
