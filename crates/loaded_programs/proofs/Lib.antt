@@ -11,3 +11,4 @@ pub mod NamesHeld
 pub mod Reached
 pub mod NumbersHeld
 pub mod NamesShown
+pub mod TargetsHeld
