@@ -1,6 +1,6 @@
 -- What one variable or list more leaves as it was: the stage, the number of targets, and what was there.
-use Rattle.std.proofs.Common.{◌≡◌, ℕ, zero, suc, ◌+◌, ◌<◌, ◌≤◌, Bool, true, false, cond, List, [], ◌∷◌, ◌++◌, length, map, refl, sym, ap, ◌∙◌, subst, arith, length-append}
-use Rattle.std.specs.Prelude.{codes, nat_lt, not, slice_get, slice_set, unwrap_or, position, Option, None, Some}
+use Rattle.std.proofs.Common.{◌≡◌, ℕ, zero, suc, ◌+◌, ◌<◌, ◌≤◌, Bool, cond, List, [], ◌∷◌, length, refl, sym, ap, ◌∙◌, subst, arith, length-append}
+use Rattle.std.specs.Prelude.{nat_lt, not, slice_get, unwrap_or, position, Option, None, Some}
 use Rattle.std.specs.List.{count_by, position_or_len}
 use Rattle.std.proofs.lemmas.List.Sums.{sum_by-cons}
 use Rattle.scratch_values.specs.declared.names.VarName.{VarName}
@@ -11,7 +11,7 @@ use Rattle.script_machine.specs.Program.{Records, no_target, record_at, stage_nu
 use Rattle.script_machine.specs.declared.records.VariableRecord.{VariableRecord}
 use Rattle.script_machine.specs.declared.records.ListRecord.{ListRecord}
 use Rattle.script_machine.specs.declared.records.TargetRecord.{TargetRecord}
-use Rattle.project_file.specs.Resolving.{Sort, OfVariable, OfList, names_of, with_added}
+use Rattle.project_file.specs.Resolving.{Sort, OfVariable, OfList, with_added}
 use Rattle.legal_threads.specs.Lists.{Each}
 use Rattle.legal_threads.specs.Playable.{NamesVariable, NamesList}
 

@@ -1,6 +1,6 @@
 -- The values in blocks as they are read: their numbers are within the limit.
-use Rattle.std.proofs.Common.{◌≡◌, ℕ, zero, suc, ◌+◌, ◌<◌, ◌≤◌, Bool, true, false, cond, List, [], ◌∷◌, length, map, refl, sym, ap, subst, arith}
-use Rattle.std.specs.Prelude.{codes, ◌==◌, ◌&&◌, nat_lt, replicate, Option, None, Some, IfSome, Result, Ok, Err}
+use Rattle.std.proofs.Common.{◌≡◌, ℕ, zero, suc, Bool, true, false, cond, List, [], ◌∷◌, length, map}
+use Rattle.std.specs.Prelude.{codes, ◌==◌, ◌&&◌, replicate, Option, None, Some, IfSome, Result, Ok, Err}
 use Rattle.std.specs.Option.{option_and_then}
 use Rattle.opcode_table.specs.declared.opcode.Opcode.TheVariants.{ProceduresPrototype, ProceduresCall, DataVariable, DataListContents}
 use Rattle.project_json.specs.Tree.{Tree, null, truth, number, text, list, object}
@@ -13,7 +13,7 @@ use Rattle.scratch_values.specs.declared.value.Value.TheVariants.{Text}
 use Rattle.shapes.specs.Shapes as shape
 use Rattle.shapes.specs.Shapes.{◌>>=◌, present}
 use Rattle.project_file.specs.declared.refusals.MutationRefusal.{MutationRefusal}
-use Rattle.project_file.specs.declared.refusals.MutationRefusal.TheVariants.{Missing, BadText}
+use Rattle.project_file.specs.declared.refusals.MutationRefusal.TheVariants.{BadText}
 use Rattle.project_file.specs.declared.blocks.Code.{Code}
 use Rattle.project_file.specs.declared.blocks.Code.TheVariants.{Known, Other}
 use Rattle.project_file.specs.declared.blocks.Input.{Input}
@@ -22,13 +22,13 @@ use Rattle.project_file.specs.declared.blocks.Mutation.{Mutation}
 use Rattle.project_file.specs.declared.blocks.Mutation.TheVariants as mutation
 use Rattle.project_file.specs.declared.blocks.Block.{Block}
 use Rattle.project_file.specs.declared.blocks.Prototype.{Prototype}
-use Rattle.project_file.specs.Values.{num, value}
-use Rattle.project_file.specs.Mutation.{◌>>>◌, or_refuse, text_named, add_some, all_some, listed, texts_of, default_by, default_of, defaults_of, warp_of, same_lengths, prototype_in, call_in}
+use Rattle.project_file.specs.Values.{value}
+use Rattle.project_file.specs.Mutation.{◌>>>◌, or_refuse, text_named, add_some, all_some, listed, texts_of, default_of, defaults_of, warp_of, prototype_in, call_in}
 use Rattle.project_file.specs.Blocks.{Ids, is_one_of, tag, code_named, name_and_id, literal, message, primitive_by, primitive, input_value, items_from, input_of, field_of, prototype_by, call_by, mutation_by, object_here, block_object, reporter, block_list, block_at, block_of, blocks_of}
 use Rattle.project_file.specs.Reading.{Table, table_of, table_in}
 use Rattle.legal_threads.specs.Lists.{Each}
 use Rattle.legal_turns.specs.Within.{IsValueWithin}
-use Rattle.loaded_programs.proofs.Readers.{Gives, Anything, gives_any, goes_on, goes_any, gives_more, each_all, required_gives, defaulted_gives, required_item_gives, each_gives, each_member_gives}
+use Rattle.loaded_programs.proofs.Readers.{Gives, Anything, goes_on, goes_any, gives_more, each_all, required_item_gives, each_member_gives}
 use Rattle.loaded_programs.proofs.TargetsRead.{value_within, value_at_within}
 
 -- Inputs

@@ -1,6 +1,6 @@
 -- What the records and blocks of an accepted file have.
-use Rattle.std.proofs.Common.{◌≡◌, ℕ, zero, suc, ◌+◌, ◌<◌, ◌≤◌, ◌^◌, Bool, true, false, cond, List, [], ◌∷◌, ◌++◌, length, map, refl, sym, ap, subst, arith}
-use Rattle.std.specs.Prelude.{codes, flat_map, find, nat_lt, Option, None, Some, Result, Ok, Err}
+use Rattle.std.proofs.Common.{◌≡◌, ℕ, ◌+◌, ◌<◌, ◌≤◌, ◌^◌, Bool, true, false, cond, List, [], ◌∷◌, ◌++◌, length, refl, arith}
+use Rattle.std.specs.Prelude.{codes, flat_map, find, None, Some}
 use Rattle.std.specs.Option.{option_map}
 use Rattle.std.specs.List.{enumerate_from}
 use Rattle.std.proofs.lemmas.Bool.{ltb-false}
@@ -10,16 +10,15 @@ use Rattle.shapes.specs.Places.{path}
 use Rattle.shapes.specs.Shapes as shape
 use Rattle.shapes.specs.Shapes.{◌>>=◌}
 use Rattle.script_machine.specs.DataRows.{most_items}
-use Rattle.script_machine.specs.Program.{Monitor}
 use Rattle.script_machine.specs.declared.records.ListRecord.{ListRecord}
 use Rattle.script_machine.specs.declared.records.TargetRecord.{TargetRecord}
 use Rattle.project_file.specs.Targets.{target_of, monitor_of}
-use Rattle.project_file.specs.Reading.{File, Table, table_in, file_by, file_of}
+use Rattle.project_file.specs.Reading.{File, table_in, file_by, file_of}
 use Rattle.project_file.specs.Refusals.{IsAccepted, stage_count}
 use Rattle.project_file.specs.Limits.{Measure, measures, is_too_many, first_too_many, too_many, target_measures, target_place, list_measures, variable_measures, id_or_none, counts_from, table_measures, blocks_place, costume_measures}
 use Rattle.legal_threads.specs.Lists.{Each}
 use Rattle.legal_threads.proofs.Numbers.{each_map}
-use Rattle.loaded_programs.proofs.Readers.{Gives, given_is, Anything, goes_on, goes_any, gives_more, required_gives, each_gives}
+use Rattle.loaded_programs.proofs.Readers.{Gives, given_is, goes_on, goes_any, required_gives, each_gives}
 use Rattle.loaded_programs.proofs.TreesTold.{IsTold, text_told, items_told, members_told}
 use Rattle.loaded_programs.proofs.TargetsRead.{IsRead, target_read}
 use Rattle.loaded_programs.proofs.BlocksRead.{IsTableWithin, table_within}

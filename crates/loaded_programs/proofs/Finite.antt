@@ -1,6 +1,6 @@
 -- The numbers of JSON texts: within the limit, and each a number.
 use Rattle.std.proofs.Common.{◌≡◌, ℕ, ◌+◌, ◌-◌, ◌<◌, ◌≤◌, Bool, true, false, cond, List, [], ◌∷◌, ◌++◌, length, inl, inr, ◌⊎◌, refl, sym, ap, ◌∙◌, subst, arith}
-use Rattle.std.specs.Prelude.{◌&&◌, ◌||◌, ◌==◌, nat_le, ℤ, pos, negsuc, slice_index, zero, suc}
+use Rattle.std.specs.Prelude.{◌==◌, nat_le, ℤ, pos, negsuc, slice_index, zero, suc}
 use Rattle.std.specs.Char.{digit_value, is_whitespace}
 use Rattle.std.specs.Str.{IsAscii, chars, encode_utf8_all, skip_leading_whitespace, drop_trailing_whitespace, trim, trim_start, trim_end}
 use Rattle.std.specs.Str.Parse.{AllDigits, IsNumeral, digits_value}

@@ -1,5 +1,5 @@
 -- What is kept of a size, a direction and the number of a costume.
-use Rattle.std.proofs.Common.{◌≡◌, ℕ, zero, suc, ◌+◌, ◌-◌, ◌*◌, ◌/◌, ◌%◌, ◌^◌, ◌<◌, ◌≤◌, Bool, true, false, cond, refl, sym, ap, ◌∙◌, subst, arith}
+use Rattle.std.proofs.Common.{◌≡◌, ℕ, suc, ◌+◌, ◌-◌, ◌*◌, ◌/◌, ◌^◌, ◌<◌, ◌≤◌, Bool, true, false, cond, refl, sym, subst, arith}
 use Rattle.std.specs.Prelude.{ℤ, pos, negsuc, ◌+ℤ◌, ◌-ℤ◌, ◌*ℤ◌, ◌≤ℤ◌, int_le, neg_ℤ, unsigned_abs}
 use Rattle.std.specs.Ordering.{int_cmp, is_lt}
 use Rattle.std.proofs.lemmas.Int.{ints}
@@ -8,13 +8,11 @@ use Rattle.std.proofs.Math.Nat.{mod-eq-sub-mul-div, mul-div-le}
 use Rattle.scratch_number.specs.declared.number.Num.{Num}
 use Rattle.scratch_number.specs.declared.number.Num.TheVariants.{Fixed, Inf, NegInf, Nan}
 use Rattle.scratch_number.specs.Number.{number, floor_by, floor_quotient, IsWithin}
-use Rattle.scratch_number.specs.Arithmetic.{remainder, finite_modulo, modulo, round}
+use Rattle.scratch_number.specs.Arithmetic.{remainder, modulo, round}
 use Rattle.scratch_number.proofs.Remainders.{number-small}
-use Rattle.scratch_values.specs.Casts.{zero_number}
 use Rattle.script_machine.specs.Costume.{costume_index, whole_index}
 use Rattle.script_machine.specs.Numbers.{whole, direction_after}
 use Rattle.script_machine.specs.Looks.{size_kept}
-use Rattle.script_machine.specs.Stores.{less}
 use Rattle.legal_threads.specs.Playable.{IsBetween, IsSize, IsDirection}
 use Rattle.loaded_programs.proofs.Finite.{IsOne}
 

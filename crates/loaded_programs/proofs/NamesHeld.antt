@@ -1,6 +1,6 @@
 -- What the blocks of a file name when their names are resolved: variables and lists that are there.
-use Rattle.std.proofs.Common.{◌≡◌, ℕ, zero, suc, ◌+◌, ◌<◌, ◌≤◌, Bool, true, false, cond, List, [], ◌∷◌, ◌++◌, length, map, refl, sym, ap, ◌∙◌, subst, arith, length-append}
-use Rattle.std.specs.Prelude.{codes, nat_lt, slice_get, unwrap_or, position, bytes_eq, Option, None, Some, option_map, IfSome}
+use Rattle.std.proofs.Common.{◌≡◌, ℕ, zero, suc, ◌+◌, ◌<◌, ◌≤◌, Bool, true, false, cond, List, [], ◌∷◌, length, refl, ap, ◌∙◌, subst, arith, length-append}
+use Rattle.std.specs.Prelude.{nat_lt, slice_get, unwrap_or, position, Option, None, Some, option_map, IfSome}
 use Rattle.std.specs.List.{position_or_len}
 use Rattle.std.specs.Option.{option_or}
 use Rattle.std.proofs.lemmas.Bool.{ltb-true}
@@ -14,8 +14,7 @@ use Rattle.script_machine.specs.declared.records.ListRecord.{ListRecord}
 use Rattle.script_machine.specs.declared.records.TargetRecord.{TargetRecord}
 use Rattle.project_file.specs.declared.blocks.Block.{Block}
 use Rattle.project_file.specs.declared.blocks.Resolved.{Resolved}
-use Rattle.project_file.specs.Resolving.{Sort, OfVariable, OfList, Naming, same_id, same_name, names_of, found_in, with_added, Found, and_then, before, or_added, resolved_name, resolved_names, names_in, namings, resolved_blocks, resolved_targets}
-use Rattle.legal_threads.specs.Lists.{Each}
+use Rattle.project_file.specs.Resolving.{Sort, OfVariable, OfList, Naming, same_id, same_name, names_of, found_in, with_added, or_added, resolved_name, resolved_names, names_in, namings, resolved_blocks, resolved_targets}
 use Rattle.loaded_programs.proofs.Added.{added, changed_there, Grows, grows_none, grows_more, grows_added, Names, names_stay}
 
 -- What is kept by each name that is added is kept by all
@@ -143,8 +142,7 @@ blocks_match : (checked : ℕ → Bool) (t k : ℕ) (bs : List Block) (records :
 blocks_match checked t k [] records l = tt
 blocks_match checked t k (b ∷ bs) records l =
     let one = resolved_names t (names_in (checked k) b) records in
-    let g = grows_names t (names_in (checked k) b) records in
-    (
+    let g = grows_names t (names_in (checked k) b) records in (
       match_stays one.records (resolved_blocks checked t (k + 1) bs one.records).records t (names_in (checked k) b) one.what (grows_blocks checked t (k + 1) bs one.records) (names_match t (names_in (checked k) b) records l),
       blocks_match checked t (k + 1) bs one.records (let c = g.count in omega (arith, c, l)),
     )
@@ -159,8 +157,7 @@ pub targets_match : (checked : ℕ → ℕ → Bool) (t : ℕ) (tables : List (L
 targets_match checked t [] records l = tt
 targets_match checked t (bs ∷ more) records l =
     let one = resolved_blocks (checked t) t 0 bs records in
-    let g = grows_blocks (checked t) t 0 bs records in
-    (
+    let g = grows_blocks (checked t) t 0 bs records in (
       blocks_stay one.records (resolved_targets checked (t + 1) more one.records).records (checked t) t 0 bs one.what (grows_targets checked (t + 1) more one.records) (blocks_match (checked t) t 0 bs records (omega arith)),
       targets_match checked (t + 1) more one.records (let c = g.count in omega (arith, c, l)),
     )

@@ -1,11 +1,9 @@
 -- The variables and lists that the blocks of monitors name are there.
-use Rattle.std.proofs.Common.{◌≡◌, ℕ, zero, suc, ◌+◌, ◌<◌, ◌≤◌, ◌^◌, Bool, true, false, cond, List, [], ◌∷◌, ◌++◌, length, map, inl, inr, ◌⊎◌, refl, sym, ap, ◌∙◌, subst, arith}
-use Rattle.std.specs.Prelude.{codes, slice_get, unwrap_or, bytes_eq, find, flat_map, option_map, ◌&&◌, Option, None, Some, IfSome}
-use Rattle.std.proofs.lemmas.Bool.{cases_Bool}
+use Rattle.std.proofs.Common.{◌≡◌, ℕ, Bool, true, false, cond, List, [], ◌∷◌, ◌++◌, inl, inr, ◌⊎◌, refl, sym, ap, ◌∙◌, subst}
+use Rattle.std.specs.Prelude.{codes, slice_get, unwrap_or, bytes_eq, flat_map, Option, None, Some}
 use Rattle.std.proofs.lemmas.Slice.Eq.{bytes_eq-Decides}
 use Rattle.opcode_table.specs.declared.opcode.Opcode.{Opcode}
 use Rattle.opcode_table.specs.declared.opcode.Opcode.TheVariants.{DataShowVariable, DataHideVariable, DataShowList, DataHideList}
-use Rattle.opcode_table.specs.Table.{row}
 use Rattle.scratch_values.specs.Named.{item_named}
 use Rattle.scratch_values.specs.declared.names.VarName.{VarName}
 use Rattle.scratch_values.specs.declared.names.VarRef.{VarRef}
@@ -17,11 +15,11 @@ use Rattle.project_file.specs.declared.blocks.Code.TheVariants.{Known, Other}
 use Rattle.project_file.specs.declared.blocks.Input.{Input}
 use Rattle.project_file.specs.declared.blocks.Input.TheVariants as input
 use Rattle.project_file.specs.declared.blocks.Resolved.{Resolved}
-use Rattle.project_file.specs.Linked.{named, is_unfit_field, unfit_by, unfit_field}
-use Rattle.project_file.specs.Resolving.{Sort, OfVariable, OfList, Naming, field_sort, is_own_field, field_naming, input_naming, namings, ref_in, ref_at}
+use Rattle.project_file.specs.Linked.{named, is_unfit_field, unfit_by}
+use Rattle.project_file.specs.Resolving.{Sort, OfVariable, OfList, Naming, field_sort, is_own_field, field_naming, input_naming, ref_in, ref_at}
 use Rattle.project_file.specs.Trees.{Sheet, op_by, refs_from}
 use Rattle.legal_threads.specs.Lists.{Each}
-use Rattle.legal_threads.specs.Playable.{NamesVariable, NamesList, ShowsNamed, ref_named}
+use Rattle.legal_threads.specs.Playable.{ShowsNamed, ref_named}
 use Rattle.loaded_programs.proofs.Added.{Names}
 use Rattle.loaded_programs.proofs.NamesHeld.{Match}
 

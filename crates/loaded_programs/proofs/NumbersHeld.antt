@@ -1,10 +1,10 @@
 -- The numbers of the program of an accepted file are within the limit.
-use Rattle.std.proofs.Common.{◌≡◌, ℕ, zero, suc, ◌+◌, ◌<◌, ◌≤◌, ◌^◌, Bool, true, false, cond, List, [], ◌∷◌, ◌++◌, length, map, refl, sym, ap, subst, arith}
+use Rattle.std.proofs.Common.{◌≡◌, ℕ, zero, suc, ◌<◌, ◌^◌, Bool, true, false, cond, List, [], ◌∷◌, length, map, refl, sym, subst, arith}
 use Rattle.std.specs.Prelude.{slice_get, Option, None, Some, IfSome}
 use Rattle.std.specs.List.{filter_map, cons_option}
 use Rattle.scratch_values.specs.declared.names.VarName.{VarName}
-use Rattle.script_machine.specs.Script.{Script, Expression, AndInput}
-use Rattle.script_machine.specs.Program.{Program, Procedure, Records, scripts_at}
+use Rattle.script_machine.specs.Script.{Script, Expression}
+use Rattle.script_machine.specs.Program.{Program, Procedure, Records}
 use Rattle.script_machine.specs.declared.records.VariableRecord.{VariableRecord}
 use Rattle.script_machine.specs.declared.records.ListRecord.{ListRecord}
 use Rattle.script_machine.specs.declared.records.TargetRecord.{TargetRecord}
@@ -19,15 +19,15 @@ use Rattle.project_file.specs.declared.blocks.Operand.{Operand}
 use Rattle.project_file.specs.declared.blocks.Block.{Block}
 use Rattle.project_file.specs.declared.blocks.Prototype.{Prototype}
 use Rattle.project_file.specs.declared.blocks.Resolved.{Resolved}
-use Rattle.project_file.specs.Linked.{custom_block, is_head, named}
+use Rattle.project_file.specs.Linked.{custom_block, named}
 use Rattle.project_file.specs.Reading.{File, Table, blocks_in}
 use Rattle.project_file.specs.Refusals.{IsAccepted, IsProgram}
 use Rattle.project_file.specs.Resolving.{Sort, OfVariable, OfList, Found, with_added, resolved_targets}
-use Rattle.project_file.specs.Trees.{Sheet, is_apart, operand_by, operand, operands, inputs_by, fields_of, refs_from, menu_text, expression_by, block_expression, expression_within, expression, statement_by, prototype_at, linked_prototype, procedure_by, procedures_of, scripts_of, sheet_of, program}
+use Rattle.project_file.specs.Trees.{Sheet, is_apart, operand_by, operand, inputs_by, expression_by, block_expression, expression_within, expression, statement_by, prototype_at, linked_prototype, procedure_by, procedures_of, sheet_of}
 use Rattle.legal_threads.specs.Lists.{Each}
 use Rattle.legal_threads.proofs.Numbers.{each_map, each_append}
 use Rattle.legal_turns.specs.Within.{IsValueWithin, IsExpressionWithin, AreInputsWithin, IsStatementWithin, IsTargetWithin, IsProgramWithin}
-use Rattle.loaded_programs.proofs.Added.{added, each_changed}
+use Rattle.loaded_programs.proofs.Added.{each_changed}
 use Rattle.loaded_programs.proofs.BlocksRead.{IsInputWithin, IsMutationWithin, IsBlockWithin, IsTableWithin}
 use Rattle.loaded_programs.proofs.FilesRead.{IsLoaded, loaded}
 use Rattle.loaded_programs.proofs.NamesHeld.{targets_keep}

@@ -1,11 +1,11 @@
 -- The statements of a program are those of checked blocks.
-use Rattle.std.proofs.Common.{◌≡◌, ℕ, zero, suc, ◌+◌, ◌<◌, ◌≤◌, Bool, true, false, cond, List, [], ◌∷◌, ◌++◌, length, map, filter, inl, inr, ◌⊎◌, refl, sym, ap, ◌∙◌, subst, arith}
-use Rattle.std.specs.Prelude.{slice_get, slice_index, unwrap_or, flat_map, option_map, Option, None, Some, IfSome, Contains, IsTrue}
+use Rattle.std.proofs.Common.{◌≡◌, ℕ, zero, suc, ◌+◌, Bool, true, false, cond, List, [], ◌∷◌, ◌++◌, length, inl, inr, ◌⊎◌, refl, sym, ap, ◌∙◌, subst, arith}
+use Rattle.std.specs.Prelude.{slice_get, unwrap_or, flat_map, option_map, Option, None, Some, IfSome, Contains}
 use Rattle.std.specs.List.{enumerate_from, filter_map, cons_option}
 use Rattle.std.proofs.lemmas.Option.{slice_get-map}
 use Rattle.opcode_table.specs.declared.shape.Role.TheVariants as role
-use Rattle.script_machine.specs.Script.{Script, Statement, Expression}
-use Rattle.script_machine.specs.Program.{Program, Head, Procedure, Scripts, scripts_at}
+use Rattle.script_machine.specs.Script.{Script, Statement}
+use Rattle.script_machine.specs.Program.{Head, Procedure, Scripts, scripts_at}
 use Rattle.project_file.specs.declared.blocks.Link.{Link}
 use Rattle.project_file.specs.declared.blocks.Link.TheVariants.{To, Unknown}
 use Rattle.project_file.specs.declared.blocks.Input.{Input}
@@ -13,9 +13,9 @@ use Rattle.project_file.specs.declared.blocks.Input.TheVariants as input
 use Rattle.project_file.specs.declared.blocks.Block.{Block}
 use Rattle.project_file.specs.declared.blocks.Prototype.{Prototype}
 use Rattle.project_file.specs.declared.blocks.Resolved.{Resolved}
-use Rattle.project_file.specs.Linked.{Place, Behind, In, next_link, input_link, input_links, links, known_block, leads_to, is_branch, custom_block, has_role, is_head, Leads, IsChecked, head, linked, named}
+use Rattle.project_file.specs.Linked.{Place, Behind, In, next_link, input_link, input_links, links, known_block, leads_to, is_branch, custom_block, has_role, is_head, IsChecked, head, linked, named}
 use Rattle.project_file.specs.Resolving.{Found}
-use Rattle.project_file.specs.Trees.{Sheet, branch_by, branch, branches, branches_by, expression, statement_by, statement, target_of_link, block_script, link_script, script_within, script, head_of, hat_at, heads_of, linked_prototype, procedure_by, procedure_at, first_of_each, procedures_of, scripts_of, sheet_of, sheets, program}
+use Rattle.project_file.specs.Trees.{Sheet, branch_by, branch, branches_by, expression, statement_by, target_of_link, block_script, script_within, script, head_of, hat_at, heads_of, linked_prototype, procedure_by, procedure_at, first_of_each, procedures_of, scripts_of, sheet_of, sheets, program}
 use Rattle.legal_threads.specs.Lists.{Each}
 use Rattle.legal_threads.specs.Statements.{EachIn, EachInOne, Everywhere}
 use Rattle.legal_threads.proofs.Numbers.{each_filter, each_map}

@@ -2,9 +2,9 @@
 use Rattle.std.proofs.Common.{◌≡◌, ℕ, ◌+◌, Bool, true, false, cond, List, [], ◌∷◌, length, refl, subst, arith}
 use Rattle.std.specs.Prelude.{Option, None, Some, IfSome, Result, Ok, Err, bytes_eq, slice_get, zero, suc}
 use Rattle.std.specs.Fmt.{decimal}
-use Rattle.project_json.specs.Tree.{Tree, null, truth, number, text, list, object}
+use Rattle.project_json.specs.Tree.{Tree}
 use Rattle.project_json.specs.Parts.{value_named, is_null}
-use Rattle.shapes.specs.Shapes.{Reader, ◌>>=◌, found, named, required, absent_or, present, defaulted, optional, given, item, required_item, each_from, each, each_member}
+use Rattle.shapes.specs.Shapes.{Reader, ◌>>=◌, found, named, required, absent_or, present, defaulted, given, item, required_item, each_from, each, each_member}
 use Rattle.legal_threads.specs.Lists.{Each}
 
 -- what is given has the fact

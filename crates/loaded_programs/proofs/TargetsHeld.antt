@@ -1,13 +1,11 @@
 -- The targets of the program of an accepted file are well, and its blocks of monitors name what is there.
-use Rattle.std.proofs.Common.{◌≡◌, ℕ, zero, suc, ◌+◌, ◌<◌, ◌≤◌, ◌^◌, Bool, true, false, List, [], ◌∷◌, ◌++◌, length, map, refl, sym, ap, ◌∙◌, subst, arith}
-use Rattle.std.specs.Prelude.{slice_get, unwrap_or, Option, None, Some}
+use Rattle.std.proofs.Common.{◌≡◌, ℕ, ◌+◌, ◌<◌, ◌≤◌, ◌^◌, List, [], ◌∷◌, length, refl, sym, ◌∙◌, subst, arith}
+use Rattle.std.specs.Prelude.{slice_get, Option, None, Some}
 use Rattle.std.specs.List.{count_by}
 use Rattle.std.proofs.lemmas.List.{length-map}
 use Rattle.scratch_values.specs.declared.names.VarName.{VarName}
-use Rattle.script_machine.specs.DataRows.{most_items}
 use Rattle.script_machine.specs.Script.{Script}
-use Rattle.script_machine.specs.Program.{Program, Records}
-use Rattle.script_machine.specs.declared.records.ListRecord.{ListRecord}
+use Rattle.script_machine.specs.Program.{Program}
 use Rattle.script_machine.specs.declared.records.TargetRecord.{TargetRecord}
 use Rattle.project_file.specs.declared.blocks.Block.{Block}
 use Rattle.project_file.specs.declared.blocks.Resolved.{Resolved}
@@ -16,12 +14,11 @@ use Rattle.project_file.specs.Linked.{IsChecked, unfit_field}
 use Rattle.project_file.specs.Reading.{File, Table, blocks_in}
 use Rattle.project_file.specs.Refusals.{Fields, Passes, IsAccepted, IsProgram}
 use Rattle.project_file.specs.Resolving.{Sort, OfVariable, OfList, Found, with_added, resolved_targets}
-use Rattle.project_file.specs.Trees.{expression, statement_by, sheet_of, program}
+use Rattle.project_file.specs.Trees.{expression, statement_by, sheet_of}
 use Rattle.legal_threads.specs.Lists.{Each}
 use Rattle.legal_threads.specs.Playable.{IsTarget, IsNamed, IsPlayable}
-use Rattle.legal_threads.specs.Statements.{Everywhere}
 use Rattle.legal_threads.proofs.Numbers.{each_append}
-use Rattle.loaded_programs.proofs.Added.{added, Grows, count_added}
+use Rattle.loaded_programs.proofs.Added.{Grows, count_added}
 use Rattle.loaded_programs.proofs.TargetsRead.{IsRead}
 use Rattle.loaded_programs.proofs.FilesRead.{HasShortLists, IsShortList, IsLoaded, loaded}
 use Rattle.loaded_programs.proofs.OneStage.{has_stage}

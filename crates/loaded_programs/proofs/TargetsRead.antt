@@ -1,12 +1,11 @@
 -- What targets have as they are read.
-use Rattle.std.proofs.Common.{◌≡◌, ℕ, ◌+◌, ◌<◌, ◌≤◌, ◌^◌, Bool, true, false, cond, List, [], ◌∷◌, length, refl, sym, ap, subst, arith}
-use Rattle.std.specs.Prelude.{codes, pos, negsuc, Some, Ok, Err}
+use Rattle.std.proofs.Common.{◌≡◌, ℕ, ◌<◌, ◌^◌, Bool, true, false, List, [], ◌∷◌, length, refl, arith}
+use Rattle.std.specs.Prelude.{codes, pos, negsuc, Ok}
 use Rattle.project_json.specs.Tree.{Tree, null, truth, number, text, list, object}
 use Rattle.scratch_number.specs.declared.number.Num.{Num}
 use Rattle.scratch_number.specs.Number.{IsWithin}
 use Rattle.scratch_number.specs.Reading.{number_of}
 use Rattle.scratch_values.specs.Casts.{zero_number}
-use Rattle.scratch_values.specs.declared.value.Value.{Value}
 use Rattle.scratch_values.proofs.Numbers.{IsWithin-number_of}
 use Rattle.shapes.specs.Shapes as shape
 use Rattle.shapes.specs.Shapes.{◌>>=◌}
@@ -14,8 +13,6 @@ use Rattle.script_machine.specs.declared.records.VariableRecord.{VariableRecord}
 use Rattle.script_machine.specs.declared.records.ListRecord.{ListRecord}
 use Rattle.script_machine.specs.declared.records.TargetRecord.{TargetRecord}
 use Rattle.script_machine.specs.declared.instance.Style.TheVariants.{AllAround}
-use Rattle.script_machine.specs.Numbers.{direction_after}
-use Rattle.script_machine.specs.Looks.{size_kept}
 use Rattle.project_file.specs.Values.{num, value}
 use Rattle.project_file.specs.Targets.{Look, hundred, ninety, look_by, look_of, style_of, variable_of, values_of, list_of, costume_of, not_empty, costumes_of, target_members, target_of}
 use Rattle.legal_threads.specs.Lists.{Each}

@@ -1,14 +1,13 @@
 -- What the trees of JSON texts have: their numbers are those of the grammar, and their lists are short.
-use Rattle.std.proofs.Common.{◌≡◌, ℕ, ◌+◌, ◌<◌, ◌≤◌, Bool, true, false, cond, List, [], ◌∷◌, length, refl, sym, ap, subst, arith}
-use Rattle.std.specs.Prelude.{bytes_eq, IfSome}
+use Rattle.std.proofs.Common.{ℕ, ◌<◌, ◌≤◌, Bool, true, false, cond, List, [], ◌∷◌, length, sym, subst, arith}
+use Rattle.std.specs.Prelude.{bytes_eq}
 use Rattle.project_json.specs.Tree.{Tree, null, truth, number, text, list, object, Trees, no_trees, tree_and, Fields, no_fields, field_and, trees_of, fields_of, tree_list, field_list}
-use Rattle.project_json.specs.Parts.{items_in, members_in, digits_in}
 use Rattle.project_json.specs.Size.{size_of, items_size, members_size}
 use Rattle.project_json.specs.Numbers.{IsNumber}
 use Rattle.project_json.specs.Grammar.{put, Value, null_here, true_here, false_here, number_here, text_here, no_items_here, items_here, no_members_here, members_here, Spaced, spaced, Items, last_item, more_items, Members, last_member, more_members, IsJson}
 use Rattle.project_json.proofs.Sizes.{IsJson-size}
 use Rattle.legal_threads.specs.Lists.{Each}
-use Rattle.loaded_programs.proofs.Readers.{Gives, found_gives}
+use Rattle.loaded_programs.proofs.Readers.{Gives}
 use Rattle.shapes.specs.Shapes.{items, members, digits}
 
 -- each number in it is one of the grammar
