@@ -1,12 +1,12 @@
 -- What the instances of a run are, between two lines of a script and during a frame.
-use Rattle.std.specs.Prelude.{◌≡◌, ◌⊎◌, ℕ, ◌+◌, ◌<◌, ◌≤◌, pos, negsuc, Bool, true, false, List, [], ◌∷◌, map, length, slice_get, Option, Some, IfSome, IsSomeAnd}
+use Rattle.std.specs.Prelude.{◌≡◌, ◌⊎◌, ℕ, ◌+◌, ◌<◌, ◌≤◌, pos, negsuc, true, false, List, map, length, slice_get, IsSomeAnd}
 use Rattle.opcode_table.specs.Kinds.{hat_kind}
 use Rattle.scratch_number.specs.declared.number.Num.{Num}
 use Rattle.script_machine.specs.declared.effects.Effect.TheVariants.{Brightness, Ghost}
 use Rattle.script_machine.specs.declared.instance.Instance.{Instance}
 use Rattle.script_machine.specs.Effects.{effect_place}
 use Rattle.script_machine.specs.Frame.{is_edge_hat}
-use Rattle.script_machine.specs.Program.{Program, Records, Head, hat_block, record_at, scripts_at}
+use Rattle.script_machine.specs.Program.{Program, Records, Head, hat_block, scripts_at}
 use Rattle.script_machine.specs.Script.{op_of}
 use Rattle.script_machine.specs.Stopping.{most_clones}
 use Rattle.script_machine.specs.Stores.{is_on_stage, record_of}

@@ -70,7 +70,7 @@ module _ (p : Program) (good : IsProgram p) (i : ℕ) (t : Task) (s : Statement)
     pub deep : depth t ≡ markers r + 1
 
   module _ (c : Context) (w : World Task) (h : Ready c w) where
-    within : Within h.thread.target h.thread.head.script
+    pub within : Within h.thread.target h.thread.head.script
     within = held_head (λ x. Within h.thread.target x.script) h.thread.head (scripts_at h.thread.target p).heads h.thread.heads (good.heads h.thread.target)
 
     place_is : (place_of s).target ≡ h.thread.target
@@ -88,7 +88,7 @@ module _ (p : Program) (good : IsProgram p) (i : ℕ) (t : Task) (s : Statement)
     found_same : kind (op_of s) ≡ Calls → procedure (instance_at t.of w.targets).of (command_of s).code p ≡ called p s
     found_same e = ap (λ k. procedure k (command_of s).code p) (target_is ∙ sym place_is) ∙ sym (ap (λ k. called_by k p (place_of s).target (command_of s).code) e)
 
-    acts : (x : Applied) → Applies p t.of t.serial (command_of s) w x → Acts p i t s r x.control x.context x.world
+    pub acts : (x : Applied) → Applies p t.of t.serial (command_of s) w x → Acts p i t s r x.control x.context x.world
     acts x a =
         let v = x.world in
         let names = noted_names t.of t.serial x.control x.context w.devices v.devices a.fits.noted in
@@ -131,12 +131,14 @@ module _ (p : Program) (good : IsProgram p) (i : ℕ) (t : Task) (s : Statement)
           deep = h.deep;
         }
 
+    pub row_applies : (a : Arguments) → IfGoes (row p (command_of s) a t.of t.serial c w) (Applies p t.of t.serial (command_of s) w)
+    row_applies a = row_fits p t.of t.serial (command_of s) w a c h.thread.target h.thread.hosted h.brings h.kept (call_named h.thread.target _ (named (command_of s).code))
+
     row_after : (late : Bool) (a : Arguments) → IfGoes (then_do (row p (command_of s) a t.of t.serial c w) (λ x. act p i late t s r x.control x.context x.world)) (After p i)
-    row_after late a = goes_then (row p (command_of s) a t.of t.serial c w) _ (Applies p t.of t.serial (command_of s) w) (After p i)
-        (row_fits p t.of t.serial (command_of s) w a c h.thread.target h.thread.hosted h.brings h.kept (call_named h.thread.target _ (named (command_of s).code)))
+    row_after late a = goes_then (row p (command_of s) a t.of t.serial c w) _ (Applies p t.of t.serial (command_of s) w) (After p i) (row_applies a)
         (λ x g. act_after p i t s r late x.control x.context x.world (acts x g))
 
-  with_words : (c : Context) (w : World Task) (d : Words) → Ready c w → Ready c (record w { words = d })
+  pub with_words : (c : Context) (w : World Task) (d : Words) → Ready c w → Ready c (record w { words = d })
   with_words c w d h = record {
     runs = h.runs;
     moving = record { sound = record { inhabited = h.moving.sound.inhabited; asking = h.moving.sound.asking; speaking = h.moving.sound.speaking; askers_live = h.moving.sound.askers_live; speakers_live = h.moving.sound.speakers_live }; crew = h.moving.crew; few = h.moving.few };

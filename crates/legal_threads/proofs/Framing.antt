@@ -111,10 +111,10 @@ module _ (p : Program) where
     pub legal : IsLegalWorld p v
     pub faces : Faces w.targets v.targets
 
-  pair_on : (is js : List Instance) (x : Pair) → Faces is js → PairFits p is x → PairFits p js x
+  pub pair_on : (is js : List Instance) (x : Pair) → Faces is js → PairFits p is x → PairFits p js x
   pair_on is js x f h = record { target = h.target; hosted = f.on x.of h.target h.hosted; heads = h.heads }
 
-  noted_legal : (x : Pair) (b : Bool) (w : World Task) → IsLegalWorld p w → SameFaces w (edge_noted x b w)
+  pub noted_legal : (x : Pair) (b : Bool) (w : World Task) → IsLegalWorld p w → SameFaces w (edge_noted x b w)
   noted_legal x b w h =
       let v = edge_noted x b w in
       let f : Faces w.targets v.targets = changed_faces (λ i. record i { edges = with_edge (hat_block x.head) b i.edges }) (λ i. record { number = refl; of = refl }) x.of w.targets in
@@ -146,7 +146,7 @@ module _ (p : Program) where
       (λ u g. record { legal = g.legal; faces = faces_then w.targets v.targets u.targets n.faces g.faces })
       (fired_legal (b && not (recorded (hat_block x.head) (edges_of (live x.of w.targets)))) x v (pair_on w.targets v.targets x n.faces f) n.legal)
 
-  one_legal : (x : Pair) (w : World Task) → PairFits p w.targets x → IsLegalWorld p w → IfGoes (edge_one p x w) (SameFaces w)
+  pub one_legal : (x : Pair) (w : World Task) → PairFits p w.targets x → IsLegalWorld p w → IfGoes (edge_one p x w) (SameFaces w)
   one_legal x w f h = goes_any (values (edge_view p x.of w) (inputs_of x.head.hat) w.words) _ (SameFaces w)
       (λ d. goes_weaker (edge_passed x (edge_value x.head.hat (number_at (codes "VALUE") (arguments_of x.head.hat d.value)) w.devices) (record w { words = d.words })) (SameFaces (record w { words = d.words })) (SameFaces w)
       (λ u g. record { legal = g.legal; faces = g.faces })
@@ -158,7 +158,7 @@ module _ (p : Program) where
   edges_legal (x ∷ xs) w f h = goes_then (edge_one p x w) _ (SameFaces w) (IsLegalWorld p) (one_legal x w f.0 h)
       (λ v g. edges_legal xs v (each_map (PairFits p w.targets) (PairFits p v.targets) xs (λ y k. pair_on w.targets v.targets y g.faces k) f.1) g.legal)
 
-  edges_fit : (w : World Task) → Each (PairFits p w.targets) (edges p w)
+  pub edges_fit : (w : World Task) → Each (PairFits p w.targets) (edges p w)
   edges_fit w = each_filter (PairFits p w.targets) (λ x. not (list_any (is_alive_of tasks x) w.threads.list)) (pairs p (λ s. is_edge_hat (hat_kind (op_of s))) w.targets) (pairs_fit p w.targets (λ s. is_edge_hat (hat_kind (op_of s))))
 
   -- The frame

@@ -1,10 +1,9 @@
 -- What keeps a fact of worlds: each thing that can happen to a world in a line, whatever becomes of its threads.
-use Rattle.std.proofs.Common.{◌≡◌, ℕ, Bool, true, false, List, [], ◌∷◌, Option, Some, None}
-use Rattle.std.specs.Prelude.{◌<◌, ◌≤◌, ◌+◌, unsigned_abs, ℤ, length}
+use Rattle.std.proofs.Common.{◌≡◌, ℕ, Bool, true, false, List, ◌∷◌}
+use Rattle.std.specs.Prelude.{◌≤◌, ◌+◌, unsigned_abs, ℤ, length}
 use Rattle.opcode_table.specs.Kinds.{hat_kind}
 use Rattle.scratch_values.specs.Longest.{longest}
 use Rattle.scratch_values.specs.Named.{Arguments}
-use Rattle.scratch_values.specs.declared.value.Value.{Value}
 use Rattle.script_machine.specs.declared.devices.Key.{Key}
 use Rattle.script_machine.specs.declared.devices.Question.{Question}
 use Rattle.script_machine.specs.declared.threads.Context.{Context}
@@ -20,7 +19,6 @@ use Rattle.script_machine.specs.Step.{row, Applied}
 use Rattle.script_machine.specs.Stopping.{scene_of, with_scene, first_taken, bubble_emptied, questions_dropped, without_timers, disposed, is_clone, all_stopped, clone_added, placed_behind, has_no_room}
 use Rattle.script_machine.specs.Tasks.{Task}
 use Rattle.script_machine.specs.View.{View}
-use Rattle.script_machine.specs.Words.{Drawn}
 use Rattle.script_machine.specs.World.{World}
 use Rattle.legal_threads.specs.GoodLines.{IsNamedKey, last_clock}
 use Rattle.legal_threads.specs.Instances.{Hosts, Inhabited}
@@ -50,7 +48,7 @@ module _ (p : Program) (P : ℕ → Statement → Type 0) (Q : World Task → Ty
     pub given : (w : World Task) → (w.next_thread ≡ last_number → ⊥) → Q w → Q (record w { next_thread = w.next_thread + 1 })
     -- an execution: its inputs draw words, its row changes what its group may change
     pub evaluates : (w : World Task) (v : View) (inputs : Expressions) → Q w → IfGoes (values v inputs w.words) (λ d. Q (record w { words = d.words }))
-    pub rows : (w : World Task) (t : Task) (s : Statement) (c : Context) (a : Arguments) (x : Applied) → Stands w t s → Q w
+    pub rows : (w : World Task) (t : Task) (s : Statement) (c : Context) (a : Arguments) (x : Applied) → Stands w t s → a.variables ≡ (command_of s).refs → Q w
         → row p (command_of s) a t.of t.serial c w ≡ Goes x → Applies p t.of t.serial (command_of s) w x → Q x.world
     -- what controls do beside
     pub drops : (w : World Task) (n : ℕ) → Q w → IfGoes (questions_dropped n (scene_of w)) (λ s. Q (with_scene w s))

@@ -31,3 +31,7 @@ pub mod Lines
 pub mod First
 pub mod Depths
 pub mod Keeping
+pub mod KeepingStarts
+pub mod KeepingSteps
+pub mod KeepingFrames
+pub mod KeepingLines

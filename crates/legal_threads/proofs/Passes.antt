@@ -55,10 +55,10 @@ slice_alive first Done e = absurd (cc e)
 
 -- The thread that is visited next
 
-record Visited (first : Bool) (all : List Task) (j : ℕ) : Type 0 where
-  t : Task
-  at : slice_get all j ≡ Some t
-  gets : gets_slice first t.status ≡ true
+pub record Visited (first : Bool) (all : List Task) (j : ℕ) : Type 0 where
+  pub t : Task
+  pub at : slice_get all j ≡ Some t
+  pub gets : gets_slice first t.status ≡ true
 
 next_by : (c : Bool) (first : Bool) (n : ℕ) (t : Task) (ts all : List Task) (j : ℕ) → gets_slice first t.status ≡ c → slice_get all n ≡ Some t → (next_place first (suc n) ts ≡ Some j → Visited first all j)
     → (if c then Some n else next_place first (suc n) ts) ≡ Some j → Visited first all j
@@ -77,7 +77,7 @@ drop_get zero ts k = let e : zero + k ≡ k = omega arith in ap (slice_get ts) e
 drop_get (suc i) [] k = refl
 drop_get (suc i) (t ∷ ts) k = let e : suc i + k ≡ suc (i + k) = omega arith in ap (slice_get (t ∷ ts)) e ∙ drop_get i ts k
 
-place_visited : (first : Bool) (i : ℕ) (ts : List Task) (j : ℕ) → next_place first i (drop i ts) ≡ Some j → Visited first ts j
+pub place_visited : (first : Bool) (i : ℕ) (ts : List Task) (j : ℕ) → next_place first i (drop i ts) ≡ Some j → Visited first ts j
 place_visited first i ts j h = next_visited first i (drop i ts) ts j (drop_get i ts) h
 
 -- Visits
@@ -99,9 +99,9 @@ module _ (p : Program) (good : IsProgram p) where
   on_slot : (ts : Places Task) (j : ℕ) → ts.detached ≡ None → on_running wake j ts ≡ on_place wake (Slot j) ts
   on_slot ts j e = ap (λ d. on_place wake (place_by j d) ts) e
 
-  record Woken (j : ℕ) (w : World Task) : Type 0 where
-    moving : Moving p w
-    free : MayRun j w
+  pub record Woken (j : ℕ) (w : World Task) : Type 0 where
+    pub moving : Moving p w
+    pub free : MayRun j w
 
   woken_stays : (first : Bool) (w : World Task) (t : Task) → gets_slice first t.status ≡ true → IsAtWork p w t → IsAtWork p w (wake t)
   woken_stays first w t e (inl h) = absurd (clash (is_done t.status) h.0 (slice_alive first t.status e))
@@ -122,7 +122,7 @@ module _ (p : Program) (good : IsProgram p) where
   free_stays first w t e (inl h) = absurd (clash (is_done t.status) h.0 (slice_alive first t.status e))
   free_stays first w t e (inr h) = slice_free first t.status t.items e h.status
 
-  woken_moving : (first : Bool) (j : ℕ) (w : World Task) → Paused p w → Visited first w.threads.list j → Woken j (woken j w)
+  pub woken_moving : (first : Bool) (j : ℕ) (w : World Task) → Paused p w → Visited first w.threads.list j → Woken j (woken j w)
   woken_moving first j w h v =
       let runs : running j w.threads ≡ Some v.t = running_slot w.threads j h.none_detached ∙ v.at in
       let its = each_get (IsAtWork p w) w.threads.list j v.t v.at h.moving.crew.listed in
@@ -147,7 +147,7 @@ module _ (p : Program) (good : IsProgram p) where
   left_serials next None ns s = s
   left_serials next (Some t) ns s = record { differ = s.differ.1; given = s.given.1 }
 
-  undetached : (w : World Task) → Moving p w → Paused p (without_detached w)
+  pub undetached : (w : World Task) → Moving p w → Paused p (without_detached w)
   undetached w h = record {
     moving = record {
       sound = record { inhabited = h.sound.inhabited; asking = h.sound.asking; speaking = h.sound.speaking; askers_live = h.sound.askers_live; speakers_live = h.sound.speakers_live };

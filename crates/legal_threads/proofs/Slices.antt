@@ -34,7 +34,7 @@ use Rattle.legal_threads.proofs.Staying.{free_asked, free_spoken}
 use Rattle.legal_threads.proofs.Moving.{IsAtWork, Moving, After, goes_further, gone_after}
 use Rattle.legal_threads.proofs.Executed.{Ready, execute_after}
 
-brings_kept : (clock : ℕ) (k : Kind) (c : Context) → Keeps clock k c → Brings clock k c
+pub brings_kept : (clock : ℕ) (k : Kind) (c : Context) → Keeps clock k c → Brings clock k c
 brings_kept clock k Fresh h = tt
 brings_kept clock k (Repeat n) h = h
 brings_kept clock k (Wait d) h = h
@@ -44,20 +44,20 @@ brings_kept clock k Asked h = h
 brings_kept clock k Spoken h = h
 brings_kept clock k Called h = absurd h
 
-fits_calls : (p : Program) (k : Kind) (target : ℕ) (code : List ℕ) (params : Params) → Fits params (called_by k p target code) → k ≡ Calls
+pub fits_calls : (p : Program) (k : Kind) (target : ℕ) (code : List ℕ) (params : Params) → Fits params (called_by k p target code) → k ≡ Calls
 fits_calls p Calls target code params h = refl
 fits_calls p k target code params h = absurd h
 
 -- the running thread is one of all
-record OneOfAll (P : Task → Type 0) (next : ℕ) (t : Task) : Type 0 where
-  its : P t
-  given : t.serial < next
+pub record OneOfAll (P : Task → Type 0) (next : ℕ) (t : Task) : Type 0 where
+  pub its : P t
+  pub given : t.serial < next
 
 one_by : (P : Task → Type 0) (next i : ℕ) (list : List Task) (o : Option Task) (t : Task) → running i (record { list = list; detached = o }) ≡ Some t → Crew P next (record { list = list; detached = o }) → OneOfAll P next t
 one_by P next i list None t e c = record { its = each_get P list i t e c.listed; given = member_below (serials list) next t.serial c.serials.given (get_serial list i t e) }
 one_by P next i list (Some d) t e c = let same : d ≡ t = cc in record { its = subst P same c.detached; given = subst (λ x. x.serial < next) same c.serials.given.0 }
 
-one_of_all : (P : Task → Type 0) (next i : ℕ) (ts : Places Task) (t : Task) → running i ts ≡ Some t → Crew P next ts → OneOfAll P next t
+pub one_of_all : (P : Task → Type 0) (next i : ℕ) (ts : Places Task) (t : Task) → running i ts ≡ Some t → Crew P next ts → OneOfAll P next t
 one_of_all P next i ts t e c = one_by P next i ts.list ts.detached t e c
 
 module _ (p : Program) (good : IsProgram p) (i : ℕ) where
@@ -65,7 +65,7 @@ module _ (p : Program) (good : IsProgram p) (i : ℕ) where
   ended_after w h = record { moving = h; free = λ u e g. absurd (cc g) }
 
   module _ (late : Bool) (t : Task) (w : World Task) (moving : Moving p w) (runs : running i w.threads ≡ Some t) (below : t.serial < w.next_thread) (free : waits_for_promise t.items ≡ false) where
-    ready : (h : IsThread p w.targets w.devices.clock w.next_thread (askers w.devices) (speakers w.devices) t) (s : Statement) (r : List Item) (c : Context)
+    pub ready : (h : IsThread p w.targets w.devices.clock w.next_thread (askers w.devices) (speakers w.devices) t) (s : Statement) (r : List Item) (c : Context)
         → Legal p h.head.script w.devices.clock (Do s ∷ r) t.warp → Brings w.devices.clock (kind (op_of s)) c → KeptWell w.next_thread c → depth t ≡ markers r + 1 → Ready p good i t s r c w
     ready h s r c legal brings kept deep = record {
       runs = runs;
@@ -100,7 +100,7 @@ module _ (p : Program) (good : IsProgram p) (i : ℕ) where
   pub step_after : (late : Bool) (w : World Task) → Moving p w → MayRun i w → IfGoes (step p i late w) (After p i)
   step_after late w h f = step_after_by late (running i w.threads) w refl h f
 
-  further : (r : Report) (before after late : Bool) → slice_goes_on r before after late ≡ true → goes_further r ≡ true
+  pub further : (r : Report) (before after late : Bool) → slice_goes_on r before after late ≡ true → goes_further r ≡ true
   further Go before after late e = refl
   further Uncovered before after late e = refl
   further Yielded before after late e = refl

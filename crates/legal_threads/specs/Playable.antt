@@ -5,7 +5,6 @@ use Rattle.opcode_table.specs.declared.opcode.Opcode.{Opcode}
 use Rattle.opcode_table.specs.declared.opcode.Opcode.TheVariants.{DataShowVariable, DataHideVariable, DataShowList, DataHideList}
 use Rattle.scratch_number.specs.declared.number.Num.{Num}
 use Rattle.scratch_number.specs.declared.number.Num.TheVariants.{Fixed, Inf, NegInf, Nan}
-use Rattle.scratch_values.specs.Named.{Arguments}
 use Rattle.scratch_values.specs.declared.names.VarRef.{VarRef}
 use Rattle.scratch_values.specs.declared.names.VarRef.TheVariants.{Own, Stage}
 use Rattle.script_machine.specs.DataRows.{most_items}

@@ -7,8 +7,6 @@ use Rattle.script_machine.specs.Outcome.{Goes}
 use Rattle.script_machine.specs.Program.{Program}
 use Rattle.script_machine.specs.Tasks.{Task}
 use Rattle.script_machine.specs.World.{World}
-use Rattle.legal_threads.specs.GoodLines.{IsGoodLine}
-use Rattle.legal_threads.specs.Scripts.{IsProgram}
 use Rattle.legal_threads.specs.Worlds.{IsLegalWorld}
 use Rattle.script_machine.specs.Words.{Words}
 use Rattle.legal_turns.specs.Within.{IsProgramWithin, IsWorldWithin}
@@ -20,5 +18,5 @@ FirstIsWithin = (p : Program) (words : Words) → IsProgramWithin p → IsWorldW
 -- every line that reaches no limit keeps them within it
 abbrev pub LinesKeepWithin : Type 0
 LinesKeepWithin =
-    (p : Program) (l : Line) (w v : World Task) → IsProgram p → IsProgramWithin p → IsGoodLine w.devices.clock l → IsLegalWorld p w
-    → IsWorldWithin w → after p l w ≡ Goes v → IsWorldWithin v
+    (p : Program) (l : Line) (w v : World Task) → IsProgramWithin p → IsLegalWorld p w → IsWorldWithin w → after p l w ≡ Goes v
+    → IsWorldWithin v

@@ -1,5 +1,5 @@
 -- What the variables, lists and monitors of a run are, between two lines of a script and during a frame.
-use Rattle.std.specs.Prelude.{◌≡◌, ◌↔◌, ℕ, ◌<◌, ◌≤◌, List, [], ◌∷◌, map, length}
+use Rattle.std.specs.Prelude.{◌≡◌, ◌↔◌, ℕ, ◌<◌, ◌≤◌, List, map, length}
 use Rattle.script_machine.specs.declared.instance.Instance.{Instance}
 use Rattle.script_machine.specs.declared.variables.Shown.{Shown}
 use Rattle.script_machine.specs.declared.variables.Shown.TheVariants.{Variable, List as Items}

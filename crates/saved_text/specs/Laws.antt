@@ -7,6 +7,7 @@ use Rattle.project_file.specs.Trees.{Sheet}
 use Rattle.thread_frames.specs.Fit.{Fits}
 use Rattle.thread_frames.specs.Reading as reading
 use Rattle.thread_frames.specs.Threads.{Thread}
+use Rattle.saved_text.specs.Ranges.{IsRun, IsTask, IsThread}
 use Rattle.saved_text.specs.Saved.{snapshot, saved}
 use Rattle.saved_text.specs.Tasks.{task}
 use Rattle.saved_text.specs.Threads.{thread}
@@ -21,3 +22,9 @@ abbrev pub SavesWhatIsLeft : Type 0
 SavesWhatIsLeft =
     (sheets : ℕ → Sheet) (digest : List ℕ) (seed : ℕ) (w : World Thread) → All (IsKept sheets) w.threads.list
     → saved task (snapshot digest seed (seen_world (reading.task sheets) w)) ≡ saved thread (snapshot digest seed w)
+
+-- what the levels of its threads have still to do is in range where the levels are
+abbrev pub RangesOfWhatIsLeft : Type 0
+RangesOfWhatIsLeft =
+    (sheets : ℕ → Sheet) (digest : List ℕ) (seed : ℕ) (w : World Thread) → All (IsKept sheets) w.threads.list
+    → IsRun IsThread (snapshot digest seed w) → IsRun IsTask (snapshot digest seed (seen_world (reading.task sheets) w))

@@ -1,13 +1,13 @@
 -- What the types of the program say of all that a saved run tells: whole numbers fit their types, numbers are within their
--- limit, texts are UTF-8 and as short as values and bubbles are.
+-- limit, texts are UTF-8, and those of values are short.
 use Rattle.std.specs.Prelude.{◌≡◌, ℕ, ◌<◌, ◌≤◌, ◌^◌, ℤ, pos, negsuc, List, [], ◌∷◌, length, Option, None, Some, IsUtf8}
 use Rattle.std.specs.Char.{IsScalar}
 use Rattle.std.specs.List.{All}
+use Rattle.scratch_number.specs.declared.number.Num.{Num}
 use Rattle.scratch_number.specs.Number.{IsWithin}
 use Rattle.scratch_values.specs.Longest.{longest}
 use Rattle.scratch_values.specs.declared.value.Value.{Value}
 use Rattle.scratch_values.specs.declared.value.Value.TheVariants.{Number, Truth, Text}
-use Rattle.script_machine.specs.BubbleText.{IsShort}
 use Rattle.script_machine.specs.declared.bubble.Bubble.{Bubble}
 use Rattle.script_machine.specs.declared.devices.BubbleTimer.{BubbleTimer}
 use Rattle.script_machine.specs.declared.devices.Key.{Key}
@@ -26,7 +26,7 @@ use Rattle.script_machine.specs.declared.variables.Shown.TheVariants.{Variable, 
 use Rattle.script_machine.specs.declared.variables.Store.{Store}
 use Rattle.script_machine.specs.Pending.{Item, Do, Held, Returned, Branch, Again, Back}
 use Rattle.script_machine.specs.Script.{Statement, place_of}
-use Rattle.script_machine.specs.Stores.{Devices, Variables}
+use Rattle.script_machine.specs.Stores.{Devices, store_at}
 use Rattle.script_machine.specs.Tasks.{Task}
 use Rattle.script_machine.specs.Threads.{Params}
 use Rattle.thread_frames.specs.declared.level.Level.{Level}
@@ -55,8 +55,12 @@ IsValue (Text t) = IsText t
 
 pub record IsBubble (b : Bubble) : Type 0 where
   pub utf8 : IsUtf8 b.text
-  pub short : IsShort b.text
   pub usage : IsWhole b.usage
+
+-- there are seven effects
+pub record AreEffects (effects : List Num) : Type 0 where
+  pub seven : length effects ≡ 7
+  pub within : All IsWithin effects
 
 pub record IsInstance (i : Instance) : Type 0 where
   pub number : IsWhole i.number
@@ -66,23 +70,23 @@ pub record IsInstance (i : Instance) : Type 0 where
   pub direction : IsWithin i.direction
   pub size : IsWithin i.size
   pub costume : IsWhole i.costume
-  pub seven : length i.effects ≡ 7
-  pub effects : All IsWithin i.effects
+  pub effects : AreEffects i.effects
   pub bubble : IsBubble i.bubble
   pub edges : All (λ e. IsWhole e.0) i.edges
 
-pub record IsStore (s : Store) : Type 0 where
-  pub of : IsWhole s.of
-  pub values : All IsValue s.values
-  pub lists : All (All IsValue) s.lists
+-- an instance with these values and lists
+pub record HasInstance (i : Instance) (values : List Value) (lists : List (List Value)) : Type 0 where
+  pub itself : IsInstance i
+  pub its_values : All IsValue values
+  pub its_lists : All (All IsValue) lists
+
+-- an instance with its store among these
+abbrev pub IsStanding : List Store → Instance → Type 0
+IsStanding stores i = HasInstance i (store_at i.number stores).values (store_at i.number stores).lists
 
 abbrev pub IsShown : Shown → Type 0
 IsShown (Variable target index) = IsWhole target × IsWhole index
 IsShown (Items target index) = IsWhole target × IsWhole index
-
-pub record AreVariables (vs : Variables) : Type 0 where
-  pub stores : All IsStore vs.stores
-  pub made : All (λ m. IsShown m.what) vs.made
 
 -- Devices
 
@@ -152,16 +156,23 @@ abbrev pub IsBlock : Option ℕ → Type 0
 IsBlock None = Unit {0}
 IsBlock (Some k) = IsWhole k
 
+-- what a level keeps: where its block has called, the parameters
+abbrev pub IsKept : Params → Context → Type 0
+IsKept params Called = AreParams params
+IsKept params c = IsContext c
+
 pub record IsLevel (l : Level) : Type 0 where
   pub block : IsBlock l.block
-  pub context : IsContext l.context
-  pub params : AreParams (params_in l)
+  pub kept : IsKept (params_in l) l.context
 
-pub record IsThread (t : Thread) : Type 0 where
-  pub serial : IsWhole t.serial
-  pub of : IsWhole t.of
-  pub hat : IsWhole t.hat
-  pub levels : All IsLevel t.levels
+pub record HasThread (hat serial of : ℕ) (levels : List Level) : Type 0 where
+  pub its_hat : IsWhole hat
+  pub its_serial : IsWhole serial
+  pub its_instance : IsWhole of
+  pub its_levels : All IsLevel levels
+
+abbrev pub IsThread : Thread → Type 0
+IsThread t = HasThread t.hat t.serial t.of t.levels
 
 -- Threads, by what they have still to do: what stands for levels, the first item and the markers
 
@@ -193,13 +204,12 @@ pub record IsTask (t : Task) : Type 0 where
 -- Runs, whatever a thread is
 
 pub record IsRun {T : Type 0} (thread : T → Type 0) (s : Snapshot T) : Type 0 where
-  pub project : IsUtf8 s.project
   pub seed : IsWhole s.seed
   pub drawn : IsWhole s.drawn
   pub frame : IsWhole s.frame
   pub next_thread : IsWhole s.next_thread
   pub next_instance : IsWhole s.next_instance
-  pub targets : All IsInstance s.targets
-  pub variables : AreVariables s.variables
+  pub targets : All (IsStanding s.variables.stores) s.targets
+  pub made : All (λ m. IsShown m.what) s.variables.made
   pub devices : AreDevices s.devices
   pub threads : All thread s.threads

@@ -2,7 +2,9 @@
 
 ghost use Rattle.std.specs.Prelude.{OnOk};
 ghost use Rattle.serde_json.specs.Events.{SendsValue};
+ghost use Rattle.std.specs.List.{All};
 ghost use Rattle.saved_text.specs.Contexts as saved;
+ghost use Rattle.saved_text.specs.Ranges as range;
 
 use crate::rows::{Saved, send_each, send_word};
 use project_json::Text;
@@ -12,6 +14,8 @@ use serde::Serializer;
 
 impl Saved for Count {
     ghost as_data = { saved.count };
+
+    ghost in_range = { λ n. range.IsCount n };
 
     fn send<S: Serializer>(&self, out: &mut S) -> Result<(), S::Error> {
         match self {
@@ -24,6 +28,8 @@ impl Saved for Count {
 impl Saved for (Text, Value) {
     ghost as_data = { saved.param };
 
+    ghost in_range = { λ p. range.IsParam p };
+
     fn send<S: Serializer>(&self, out: &mut S) -> Result<(), S::Error> {
         out.begin_seq(Some(2))?;
         out.str(self.0.as_str())?;
@@ -34,6 +40,8 @@ impl Saved for (Text, Value) {
 
 impl Saved for WaitState {
     ghost as_data = { saved.wait };
+
+    ghost in_range = { range.IsWait };
 
     fn send<S: Serializer>(&self, out: &mut S) -> Result<(), S::Error> {
         out.begin_seq(Some(3))?;
@@ -46,6 +54,8 @@ impl Saved for WaitState {
 
 impl Saved for GlideState {
     ghost as_data = { saved.glide };
+
+    ghost in_range = { range.IsGlide };
 
     fn send<S: Serializer>(&self, out: &mut S) -> Result<(), S::Error> {
         out.begin_seq(Some(7))?;
@@ -62,7 +72,7 @@ impl Saved for GlideState {
 
 // Sends what a block keeps that was executed, or was not, and keeps nothing else.
 fn send_fresh<S: Serializer>(is_loop: bool, out: &mut S) -> Result<(), S::Error>
-    ensures { OnOk result (SendsValue (saved.fresh is_loop) (S.written out.old) (S.written out.new)) }
+    ensures sent { OnOk result (SendsValue (saved.fresh is_loop) (S.written out.old) (S.written out.new)) }
 {
     if is_loop {
         send_word("loop", out)
@@ -73,7 +83,8 @@ fn send_fresh<S: Serializer>(is_loop: bool, out: &mut S) -> Result<(), S::Error>
 
 // Sends the turns that a repeat has left.
 fn send_repeat<S: Serializer>(turns: &Count, out: &mut S) -> Result<(), S::Error>
-    ensures { OnOk result (SendsValue (saved.repeat turns.now) (S.written out.old) (S.written out.new)) }
+    ensures sent { OnOk result (SendsValue (saved.repeat turns.now) (S.written out.old) (S.written out.new)) }
+    ensures ranges { OnOk result (range.IsCount turns.now) }
 {
     out.begin_seq(Some(2))?;
     out.str("repeat")?;
@@ -83,7 +94,8 @@ fn send_repeat<S: Serializer>(turns: &Count, out: &mut S) -> Result<(), S::Error
 
 // Sends the threads that a block has started.
 fn send_started<S: Serializer>(serials: &[Serial], out: &mut S) -> Result<(), S::Error>
-    ensures { OnOk result (SendsValue (saved.started serials.now) (S.written out.old) (S.written out.new)) }
+    ensures sent { OnOk result (SendsValue (saved.started serials.now) (S.written out.old) (S.written out.new)) }
+    ensures ranges { OnOk result (All range.IsWhole serials.now) }
 {
     out.begin_seq(Some(2))?;
     out.str("started")?;
@@ -93,7 +105,8 @@ fn send_started<S: Serializer>(serials: &[Serial], out: &mut S) -> Result<(), S:
 
 // Sends the parameters with which a block has called.
 fn send_call<S: Serializer>(params: &[(Text, Value)], out: &mut S) -> Result<(), S::Error>
-    ensures { OnOk result (SendsValue (saved.call params.now) (S.written out.old) (S.written out.new)) }
+    ensures sent { OnOk result (SendsValue (saved.call params.now) (S.written out.old) (S.written out.new)) }
+    ensures ranges { OnOk result (range.AreParams params.now) }
 {
     out.begin_seq(Some(2))?;
     out.str("call")?;
@@ -108,7 +121,8 @@ pub(crate) fn send_context<S: Serializer>(
     context: &Context,
     out: &mut S,
 ) -> Result<(), S::Error>
-    ensures { OnOk result (SendsValue (saved.context is_loop params.now context.now) (S.written out.old) (S.written out.new)) }
+    ensures sent { OnOk result (SendsValue (saved.context is_loop params.now context.now) (S.written out.old) (S.written out.new)) }
+    ensures ranges { OnOk result (range.IsKept params.now context.now) }
 {
     match context {
         Context::Fresh => send_fresh(is_loop, out),

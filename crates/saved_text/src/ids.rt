@@ -1,5 +1,6 @@
 //! Numbers of targets, blocks, instances and threads.
 
+ghost use Rattle.saved_text.specs.Ranges as range;
 ghost use Rattle.saved_text.specs.Rows.{whole};
 
 use crate::rows::Saved;
@@ -9,6 +10,8 @@ use serde::Serializer;
 impl Saved for TargetId {
     ghost as_data = { whole };
 
+    ghost in_range = { λ n. range.IsWhole n };
+
     fn send<S: Serializer>(&self, out: &mut S) -> Result<(), S::Error> {
         self.0.send(out)
     }
@@ -16,6 +19,8 @@ impl Saved for TargetId {
 
 impl Saved for BlockId {
     ghost as_data = { whole };
+
+    ghost in_range = { λ n. range.IsWhole n };
 
     fn send<S: Serializer>(&self, out: &mut S) -> Result<(), S::Error> {
         self.0.send(out)
@@ -25,6 +30,8 @@ impl Saved for BlockId {
 impl Saved for InstanceId {
     ghost as_data = { whole };
 
+    ghost in_range = { λ n. range.IsWhole n };
+
     fn send<S: Serializer>(&self, out: &mut S) -> Result<(), S::Error> {
         self.0.send(out)
     }
@@ -32,6 +39,8 @@ impl Saved for InstanceId {
 
 impl Saved for Serial {
     ghost as_data = { whole };
+
+    ghost in_range = { λ n. range.IsWhole n };
 
     fn send<S: Serializer>(&self, out: &mut S) -> Result<(), S::Error> {
         self.0.send(out)

@@ -1,10 +1,12 @@
 //! Instances with their variables and lists.
 
-ghost use Rattle.std.specs.Prelude.{◌≡◌, ◌==◌, [], find, OnOk};
+ghost use Rattle.std.specs.Prelude.{◌≡◌, ◌==◌, [], find, length, OnOk, ⊤};
+ghost use Rattle.std.specs.List.{All};
 ghost use Rattle.std.specs.Option.{option_copied};
 ghost use Rattle.serde_json.specs.Events.{SendsValue};
 ghost use Rattle.script_machine.specs.Stores.{store_at};
 ghost use Rattle.saved_text.specs.Instances as saved;
+ghost use Rattle.saved_text.specs.Ranges as range;
 ghost use Rattle.saved_text.specs.Rows.{whole, each};
 ghost use Rattle.saved_text.specs.Values.{num};
 
@@ -36,6 +38,8 @@ fn style_number(style: Style) -> u64
 impl Saved for Style {
     ghost as_data = { λ s. whole (saved.style_number s) };
 
+    ghost in_range = { λ s. ⊤ };
+
     fn send<S: Serializer>(&self, out: &mut S) -> Result<(), S::Error> {
         out.u64(style_number(*self))
     }
@@ -44,11 +48,13 @@ impl Saved for Style {
 impl Saved for Bubble {
     ghost as_data = { saved.bubble };
 
+    ghost in_range = { range.IsBubble };
+
     fn send<S: Serializer>(&self, out: &mut S) -> Result<(), S::Error> {
         out.begin_seq(Some(3))?;
         out.str(say_name(self.kind))?;
         out.str(self.text.as_str())?;
-        out.u64(self.usage)?;
+        self.usage.send(out)?;
         out.end_seq()
     }
 }
@@ -56,17 +62,20 @@ impl Saved for Bubble {
 impl Saved for (BlockId, bool) {
     ghost as_data = { saved.edge };
 
+    ghost in_range = { λ e. range.IsWhole e.0 };
+
     fn send<S: Serializer>(&self, out: &mut S) -> Result<(), S::Error> {
         out.begin_seq(Some(2))?;
-        out.u64(u64::from(self.0.0))?;
+        self.0.send(out)?;
         out.bool(self.1)?;
         out.end_seq()
     }
 }
 
 // The numbers of the effects, in their order.
-fn numbers_of(effects: &Effects) -> [Num; 7]
-    ensures { result ≡ saved.effect_numbers effects.now }
+fn numbers_of(effects: Effects) -> [Num; 7]
+    ensures value { result ≡ saved.effect_numbers effects }
+    ensures seven { length effects ≡ 7 }
 {
     [
         effects.get(Effect::Color),
@@ -82,8 +91,10 @@ fn numbers_of(effects: &Effects) -> [Num; 7]
 impl Saved for Effects {
     ghost as_data = { λ es. each num (saved.effect_numbers es) };
 
+    ghost in_range = { range.AreEffects };
+
     fn send<S: Serializer>(&self, out: &mut S) -> Result<(), S::Error> {
-        send_each(&numbers_of(self), out)
+        send_each(&numbers_of(*self), out)
     }
 }
 
@@ -122,7 +133,8 @@ fn send_parts<S: Serializer>(
     lists: &[Values],
     out: &mut S,
 ) -> Result<(), S::Error>
-    ensures { OnOk result (SendsValue (saved.instance_of instance.now values.now lists.now) (S.written out.old) (S.written out.new)) }
+    ensures sent { OnOk result (SendsValue (saved.instance_of instance.now values.now lists.now) (S.written out.old) (S.written out.new)) }
+    ensures ranges { OnOk result (range.HasInstance instance.now values.now lists.now) }
 {
     out.begin_map(Some(14))?;
     send_member("bubble", &instance.bubble, out)?;
@@ -148,7 +160,8 @@ fn send_instance<S: Serializer>(
     stores: &[Store],
     out: &mut S,
 ) -> Result<(), S::Error>
-    ensures { OnOk result (SendsValue (saved.instance stores.now instance.now) (S.written out.old) (S.written out.new)) }
+    ensures sent { OnOk result (SendsValue (saved.instance stores.now instance.now) (S.written out.old) (S.written out.new)) }
+    ensures ranges { OnOk result (range.IsStanding stores.now instance.now) }
 {
     let values = values_of(stores, instance.number);
     let lists = lists_of(stores, instance.number);
@@ -161,7 +174,8 @@ pub(crate) fn send_instances<S: Serializer>(
     stores: &[Store],
     out: &mut S,
 ) -> Result<(), S::Error>
-    ensures { OnOk result (SendsValue (each (saved.instance stores.now) instances.now) (S.written out.old) (S.written out.new)) }
+    ensures sent { OnOk result (SendsValue (each (saved.instance stores.now) instances.now) (S.written out.old) (S.written out.new)) }
+    ensures ranges { OnOk result (All (range.IsStanding stores.now) instances.now) }
 {
     out.begin_seq(Some(instances.len()))?;
     for instance in instances {

@@ -5,6 +5,7 @@ ghost use Rattle.std.specs.Char.{encode_utf8};
 ghost use Rattle.serde_json.specs.Data.{string};
 ghost use Rattle.serde_json.specs.Events.{SendsValue};
 ghost use Rattle.saved_text.specs.Devices.{key};
+ghost use Rattle.saved_text.specs.Ranges as range;
 
 use crate::rows::Saved;
 use script_machine::Key;
@@ -12,7 +13,7 @@ use serde::Serializer;
 
 // Sends the text of one character.
 fn send_letter<S: Serializer>(letter: char, out: &mut S) -> Result<(), S::Error>
-    ensures { OnOk result (SendsValue (string (encode_utf8 letter)) (S.written out.old) (S.written out.new)) }
+    ensures sent { OnOk result (SendsValue (string (encode_utf8 letter)) (S.written out.old) (S.written out.new)) }
 {
     let mut scratch = [0u8; 4];
     out.str(letter.encode_utf8(&mut scratch))
@@ -20,6 +21,8 @@ fn send_letter<S: Serializer>(letter: char, out: &mut S) -> Result<(), S::Error>
 
 impl Saved for Key {
     ghost as_data = { key };
+
+    ghost in_range = { λ k. range.IsKey k };
 
     fn send<S: Serializer>(&self, out: &mut S) -> Result<(), S::Error> {
         match self {

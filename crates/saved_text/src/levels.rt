@@ -1,8 +1,10 @@
 //! Threads with their levels.
 
-ghost use Rattle.std.specs.Prelude.{◌≡◌, OnOk};
+ghost use Rattle.std.specs.Prelude.{◌≡◌, OnOk, ⊤};
+ghost use Rattle.std.specs.List.{All};
 ghost use Rattle.serde_json.specs.Data.{string};
 ghost use Rattle.serde_json.specs.Events.{SendsValue};
+ghost use Rattle.saved_text.specs.Ranges as range;
 ghost use Rattle.saved_text.specs.Rows.{each};
 ghost use Rattle.saved_text.specs.Threads as saved;
 ghost use Rattle.thread_frames.specs.Reading.{params_in};
@@ -17,6 +19,8 @@ use thread_frames::{Level, Levels, Thread, Threads};
 
 impl Saved for Option<BlockId> {
     ghost as_data = { saved.block };
+
+    ghost in_range = { λ k. range.IsBlock k };
 
     fn send<S: Serializer>(&self, out: &mut S) -> Result<(), S::Error> {
         match self {
@@ -39,6 +43,8 @@ fn params_of(level: &Level) -> &[(Text, Value)]
 impl Saved for Level {
     ghost as_data = { saved.level };
 
+    ghost in_range = { range.IsLevel };
+
     fn send<S: Serializer>(&self, out: &mut S) -> Result<(), S::Error> {
         out.begin_seq(Some(2))?;
         self.block.send(out)?;
@@ -49,6 +55,8 @@ impl Saved for Level {
 
 impl Saved for Levels {
     ghost as_data = { saved.levels };
+
+    ghost in_range = { All range.IsLevel };
 
     fn send<S: Serializer>(&self, out: &mut S) -> Result<(), S::Error> {
         let depth = self.depth();
@@ -63,6 +71,8 @@ impl Saved for Levels {
 
 impl Saved for Status {
     ghost as_data = { λ s. string (saved.status_name s) };
+
+    ghost in_range = { λ s. ⊤ };
 
     fn send<S: Serializer>(&self, out: &mut S) -> Result<(), S::Error> {
         match self {
@@ -84,7 +94,8 @@ fn send_thread<S: Serializer>(
     status: Status,
     out: &mut S,
 ) -> Result<(), S::Error>
-    ensures { OnOk result (SendsValue (saved.thread_of hat number of status (saved.levels levels.now)) (S.written out.old) (S.written out.new)) }
+    ensures sent { OnOk result (SendsValue (saved.thread_of hat number of status (saved.levels levels.now)) (S.written out.old) (S.written out.new)) }
+    ensures ranges { OnOk result (range.HasThread hat number of levels.now) }
 {
     out.begin_map(Some(5))?;
     send_member("hat", &hat, out)?;
@@ -97,6 +108,8 @@ fn send_thread<S: Serializer>(
 
 impl Saved for Thread {
     ghost as_data = { saved.thread };
+
+    ghost in_range = { range.IsThread };
 
     fn send<S: Serializer>(&self, out: &mut S) -> Result<(), S::Error> {
         send_thread(
@@ -112,6 +125,8 @@ impl Saved for Thread {
 
 impl Saved for Threads {
     ghost as_data = { λ ts. each saved.thread ts.list };
+
+    ghost in_range = { λ ts. All range.IsThread ts.list };
 
     fn send<S: Serializer>(&self, out: &mut S) -> Result<(), S::Error> {
         let count = self.len();

@@ -15,6 +15,6 @@ mod saving;
 mod values;
 mod waits;
 
-pub use laws::a_saved_run_is_its_world;
+pub use laws::{a_saved_run_is_its_world, what_is_left_is_in_range};
 pub use run::SavedRun;
 pub use saving::{LONGEST, SaveStop, save, text_of};

@@ -4,6 +4,7 @@ ghost use Rattle.std.specs.Prelude.{OnOk, ◌∷◌, []};
 ghost use Rattle.serde_json.specs.Data.{boolean, string};
 ghost use Rattle.serde_json.specs.Events.{SendsValue};
 ghost use Rattle.saved_text.specs.Monitors.{made};
+ghost use Rattle.saved_text.specs.Ranges as range;
 ghost use Rattle.saved_text.specs.Rows.{whole, row};
 
 use crate::rows::Saved;
@@ -18,18 +19,22 @@ fn send_shown<S: Serializer>(
     visible: bool,
     out: &mut S,
 ) -> Result<(), S::Error>
-    ensures { OnOk result (SendsValue (row (string kind.now ∷ whole target ∷ whole index ∷ boolean visible ∷ [])) (S.written out.old) (S.written out.new)) }
+    ensures sent { OnOk result (SendsValue (row (string kind.now ∷ whole target ∷ whole index ∷ boolean visible ∷ [])) (S.written out.old) (S.written out.new)) }
+    ensures target { OnOk result (range.IsWhole target) }
+    ensures index { OnOk result (range.IsWhole index) }
 {
     out.begin_seq(Some(4))?;
     out.str(kind)?;
-    out.u64(u64::from(target.0))?;
-    out.u64(u64::from(index))?;
+    target.send(out)?;
+    index.send(out)?;
     out.bool(visible)?;
     out.end_seq()
 }
 
 impl Saved for Made {
     ghost as_data = { made };
+
+    ghost in_range = { λ m. range.IsShown m.what };
 
     fn send<S: Serializer>(&self, out: &mut S) -> Result<(), S::Error> {
         match self.what {

@@ -3,6 +3,7 @@
 ghost use Rattle.std.specs.Prelude.{◌∷◌, [], OnOk};
 ghost use Rattle.serde_json.specs.Events.{SendsValue};
 ghost use Rattle.saved_text.specs.Devices.{mouse};
+ghost use Rattle.saved_text.specs.Ranges.{IsRun, IsSigned, IsThread, IsWhole};
 ghost use Rattle.saved_text.specs.Saved.{saved, next};
 ghost use Rattle.saved_text.specs.Seen.{seen, seen_with};
 ghost use Rattle.saved_text.specs.Threads.{thread};
@@ -39,7 +40,9 @@ const VERSION: u64 = 1;
 
 // Sends where the mouse is, and whether its button is down.
 fn send_mouse<S: Serializer>(devices: &Devices, out: &mut S) -> Result<(), S::Error>
-    ensures { OnOk result (SendsValue (mouse devices.now) (S.written out.old) (S.written out.new)) }
+    ensures sent { OnOk result (SendsValue (mouse devices.now) (S.written out.old) (S.written out.new)) }
+    ensures x { OnOk result (IsSigned devices.now.mouse_x) }
+    ensures y { OnOk result (IsSigned devices.now.mouse_y) }
 {
     out.begin_seq(Some(3))?;
     i64::from(devices.mouse_x()).send(out)?;
@@ -50,12 +53,15 @@ fn send_mouse<S: Serializer>(devices: &Devices, out: &mut S) -> Result<(), S::Er
 
 // Sends the numbers that are given next.
 fn send_next<S: Serializer>(run: &SavedRun<'_>, out: &mut S) -> Result<(), S::Error>
-    ensures { OnOk result (SendsValue (next (seen run.now)) (S.written out.old) (S.written out.new)) }
+    ensures sent { OnOk result (SendsValue (next (seen run.now)) (S.written out.old) (S.written out.new)) }
+    ensures thread { OnOk result (IsWhole run.now.next_thread) }
+    ensures instance { OnOk result (IsWhole run.now.next_instance) }
+    ensures usage { OnOk result (IsWhole run.now.devices.now.usage) }
 {
     out.begin_seq(Some(3))?;
-    out.u64(run.next_thread)?;
-    out.u64(run.next_instance)?;
-    out.u64(run.devices.usage())?;
+    run.next_thread.send(out)?;
+    run.next_instance.send(out)?;
+    run.devices.usage().send(out)?;
     out.end_seq()
 }
 
@@ -67,7 +73,7 @@ pub(crate) struct Written<'a> {
 }
 
 impl Described for Written<'_> {
-    ghost writes = { λ w. SendsValue (saved thread (seen_with w.run.now w.digits.now)) };
+    ghost writes = { λ w old new. SendsValue (saved thread (seen_with w.run.now w.digits.now)) old new × IsRun IsThread (seen_with w.run.now w.digits.now) };
 }
 
 impl Serialize for Written<'_> {

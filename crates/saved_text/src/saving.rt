@@ -1,6 +1,7 @@
 //! Saving a run.
 
 ghost use Rattle.std.specs.Prelude.{◌≡◌, IfOk};
+ghost use Rattle.saved_text.specs.Ranges.{IsRun, IsThread};
 ghost use Rattle.saved_text.specs.Saved.{saved_text};
 ghost use Rattle.saved_text.specs.Saving.{IsSaved, longest};
 ghost use Rattle.saved_text.specs.Seen.{seen};
@@ -26,7 +27,8 @@ pub enum SaveStop {
 
 /// The text of a run, of any length (docs/formats.md, section 5). The only error is want of memory.
 pub fn text_of(alloc: Global, run: &SavedRun<'_>) -> Result<Vec<u8>, AllocError>
-    ensures { IfOk result (λ text. text.items ≡ saved_text thread (seen run.now)) }
+    ensures text { IfOk result (λ text. text.items ≡ saved_text thread (seen run.now)) }
+    ensures ranges { IfOk result (λ _. IsRun IsThread (seen run.now)) }
 {
     let digits = hex::encode(alloc, &run.digest)?;
     let written = Written {
@@ -53,7 +55,8 @@ pub(crate) fn within(limit: u64, text: Vec<u8>) -> Result<Vec<u8>, SaveStop>
 /// The text of a saved run, version 1 (docs/formats.md, section 5): compact JSON, members in the order of their names.
 /// `TooLarge` exactly where it is longer than 128 MiB; the only other error is want of memory.
 pub fn save(alloc: Global, run: &SavedRun<'_>) -> Result<Vec<u8>, SaveStop>
-    ensures { IsSaved longest (saved_text thread (seen run.now)) result }
+    ensures text { IsSaved longest (saved_text thread (seen run.now)) result }
+    ensures ranges { IfOk result (λ _. IsRun IsThread (seen run.now)) }
 {
     let Ok(text) = text_of(alloc, run) else {
         return Err(SaveStop::NoMemory);

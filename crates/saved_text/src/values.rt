@@ -1,6 +1,8 @@
 //! Numbers, texts and values.
 
+ghost use Rattle.scratch_number.specs.Number.{IsWithin};
 ghost use Rattle.serde_json.specs.Data.{string};
+ghost use Rattle.saved_text.specs.Ranges as range;
 ghost use Rattle.saved_text.specs.Values.{num, value};
 
 use crate::rows::Saved;
@@ -10,6 +12,8 @@ use serde::Serializer;
 
 impl Saved for Num {
     ghost as_data = { num };
+
+    ghost in_range = { λ n. IsWithin n };
 
     fn send<S: Serializer>(&self, out: &mut S) -> Result<(), S::Error> {
         match self {
@@ -24,6 +28,8 @@ impl Saved for Num {
 impl Saved for BoundText {
     ghost as_data = { string };
 
+    ghost in_range = { λ t. range.IsText t };
+
     fn send<S: Serializer>(&self, out: &mut S) -> Result<(), S::Error> {
         out.str(self.as_str())
     }
@@ -31,6 +37,8 @@ impl Saved for BoundText {
 
 impl Saved for Value {
     ghost as_data = { value };
+
+    ghost in_range = { λ v. range.IsValue v };
 
     fn send<S: Serializer>(&self, out: &mut S) -> Result<(), S::Error> {
         match self {

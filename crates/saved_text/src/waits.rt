@@ -1,6 +1,7 @@
 //! Questions and bubble timers, for which threads wait.
 
 ghost use Rattle.saved_text.specs.Devices.{question, timer};
+ghost use Rattle.saved_text.specs.Ranges as range;
 
 use crate::rows::Saved;
 use script_machine::{BubbleTimer, Question};
@@ -8,6 +9,8 @@ use serde::Serializer;
 
 impl Saved for Question {
     ghost as_data = { question };
+
+    ghost in_range = { range.IsQuestion };
 
     fn send<S: Serializer>(&self, out: &mut S) -> Result<(), S::Error> {
         out.begin_seq(Some(4))?;
@@ -21,6 +24,8 @@ impl Saved for Question {
 
 impl Saved for BubbleTimer {
     ghost as_data = { timer };
+
+    ghost in_range = { range.IsTimer };
 
     fn send<S: Serializer>(&self, out: &mut S) -> Result<(), S::Error> {
         out.begin_seq(Some(4))?;

@@ -2,24 +2,24 @@ use Rattle.std.proofs.lemmas.Result.{on_ok_weaker}
 use Rattle.saved_text.specs.Instances.{instance_of}
 use Rattle.saved_text.proofs.instances.send_parts.Goals as goal
 
-pub returns : goal.returns
+pub returns-clause-sent : goal.returns-clause-sent
 unfolding instance_of
-returns g c =
+returns-clause-sent g c =
     let at = g.S.Serializer.written in
-    let m1 = c.in_ok-send_member.ensures in
-    let m2 = c.in_ok-send_member-2.ensures in
-    let m3 = c.in_ok-send_member-3.ensures in
-    let m4 = c.in_ok-send_member-4.ensures in
-    let m5 = c.in_ok-send_member-5.ensures in
-    let m6 = c.in_ok-send_list.ensures in
-    let m7 = c.in_ok-send_member-6.ensures in
-    let m8 = c.in_ok-send_member-7.ensures in
-    let m9 = c.in_ok-send_member-8.ensures in
-    let m10 = c.in_ok-send_member-9.ensures in
-    let m11 = c.in_ok-send_list-2.ensures in
-    let m12 = c.in_ok-send_member-10.ensures in
-    let m13 = c.in_ok-send_member-11.ensures in
-    let m14 = c.in_ok-send_member-12.ensures in
+    let m1 = c.in_ok-send_member.ensures.sent in
+    let m2 = c.in_ok-send_member-2.ensures.sent in
+    let m3 = c.in_ok-send_member-3.ensures.sent in
+    let m4 = c.in_ok-send_member-4.ensures.sent in
+    let m5 = c.in_ok-send_member-5.ensures.sent in
+    let m6 = c.in_ok-send_list.ensures.sent in
+    let m7 = c.in_ok-send_member-6.ensures.sent in
+    let m8 = c.in_ok-send_member-7.ensures.sent in
+    let m9 = c.in_ok-send_member-8.ensures.sent in
+    let m10 = c.in_ok-send_member-9.ensures.sent in
+    let m11 = c.in_ok-send_list-2.ensures.sent in
+    let m12 = c.in_ok-send_member-10.ensures.sent in
+    let m13 = c.in_ok-send_member-11.ensures.sent in
+    let m14 = c.in_ok-send_member-12.ensures.sent in
     on_ok_weaker c.end_map.result (λ e. (
       at c.begin_map.new.self,
       c.in_ok-begin_map.ensures,

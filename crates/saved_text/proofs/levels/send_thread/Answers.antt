@@ -2,15 +2,15 @@ use Rattle.std.proofs.lemmas.Result.{on_ok_weaker}
 use Rattle.saved_text.specs.Threads.{thread_of}
 use Rattle.saved_text.proofs.levels.send_thread.Goals as goal
 
-pub returns : goal.returns
+pub returns-clause-sent : goal.returns-clause-sent
 unfolding thread_of
-returns g c =
+returns-clause-sent g c =
     let at = g.S.Serializer.written in
-    let m1 = c.in_ok-send_member.ensures in
-    let m2 = c.in_ok-send_member-2.ensures in
-    let m3 = c.in_ok-send_member-3.ensures in
-    let m4 = c.in_ok-send_member-4.ensures in
-    let m5 = c.in_ok-send_member-5.ensures in
+    let m1 = c.in_ok-send_member.ensures.sent in
+    let m2 = c.in_ok-send_member-2.ensures.sent in
+    let m3 = c.in_ok-send_member-3.ensures.sent in
+    let m4 = c.in_ok-send_member-4.ensures.sent in
+    let m5 = c.in_ok-send_member-5.ensures.sent in
     on_ok_weaker c.end_map.result (λ e. (
       at c.begin_map.new.self,
       c.in_ok-begin_map.ensures,

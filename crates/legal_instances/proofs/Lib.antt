@@ -1,0 +1,15 @@
+pub mod Bounds
+pub mod Costumes
+pub mod Changes
+pub mod Casts
+pub mod Looks
+pub mod Bubbles
+pub mod MotionRows
+pub mod Layers
+pub mod LooksRows
+pub mod ControlRows
+pub mod RowsKeep
+pub mod Clones
+pub mod First
+pub mod Kept
+pub mod Anything

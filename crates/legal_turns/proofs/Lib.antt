@@ -1,0 +1,12 @@
+pub mod Numbers
+pub mod Lists
+pub mod Values
+pub mod Rows
+pub mod LooksRows
+pub mod DataRows
+pub mod ControlRows
+pub mod Threads
+pub mod Executions
+pub mod Frames
+pub mod Legal
+pub mod First

@@ -1,0 +1,5 @@
+pub mod Numbered
+pub mod Carried
+pub mod Data
+pub mod Kept
+pub mod First
