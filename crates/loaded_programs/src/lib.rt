@@ -1,2 +1,6 @@
 //! What the program of each accepted project file has: laws over definitions. There is no code here.
 #![tactic(auto)]
+
+mod records;
+
+pub use records::{numbers_of_a_project_are_within_the_limit, targets_of_a_project_are_well};

@@ -1,0 +1,14 @@
+pub mod Readers
+pub mod Finite
+pub mod LooksHeld
+pub mod TreesTold
+pub mod TargetsRead
+pub mod BlocksRead
+pub mod FilesRead
+pub mod Added
+pub mod OneStage
+pub mod NamesHeld
+pub mod Reached
+pub mod NumbersHeld
+pub mod NamesShown
+pub mod TargetsHeld
