@@ -12,3 +12,4 @@ pub mod Reached
 pub mod NumbersHeld
 pub mod NamesShown
 pub mod TargetsHeld
+pub mod Trails
