@@ -1,10 +1,9 @@
 -- Each block of a target begins one script, wherever it stands.
-use Rattle.std.proofs.Common.{◌≡◌, ℕ, ◌+◌, List, [], ◌∷◌, Bool, true, false, cond, refl, sym, ap, ◌∙◌, subst, arith}
+use Rattle.std.proofs.Common.{◌≡◌, ℕ, List, [], ◌∷◌, Bool, true, false, cond, refl, sym, ap, ◌∙◌, subst, arith}
 use Rattle.std.specs.Prelude.{slice_get, unwrap_or, Option, None, Some, IfSome}
 use Rattle.std.specs.List.{enumerate_from}
 use Rattle.opcode_table.specs.declared.shape.Role.TheVariants as role
 use Rattle.script_machine.specs.Script.{Script, End, Then, Statement, Does, Branches, NoBranch, AndBranch, place_of}
-use Rattle.script_machine.specs.Program.{Head, Procedure, Program}
 use Rattle.project_file.specs.declared.blocks.Block.{Block}
 use Rattle.project_file.specs.declared.blocks.Resolved.{Resolved}
 use Rattle.project_file.specs.declared.blocks.Prototype.{Prototype}

@@ -1,6 +1,6 @@
 -- The heads of a target stand in the order of their blocks, and statements at blocks.
 use Rattle.std.proofs.Common.{◌≡◌, ℕ, ◌+◌, ◌<◌, Bool, true, false, cond, List, [], ◌∷◌, length, map, sym, subst, arith, ◌∙◌, ap}
-use Rattle.std.specs.Prelude.{slice_get, unwrap_or, option_map, Option, None, Some}
+use Rattle.std.specs.Prelude.{slice_get, unwrap_or, option_map, None, Some}
 use Rattle.std.specs.List.{enumerate_from, cons_option, filter_map}
 use Rattle.std.proofs.lemmas.Option.{slice_get-map, slice_get_within}
 use Rattle.opcode_table.specs.declared.shape.Role.TheVariants as role

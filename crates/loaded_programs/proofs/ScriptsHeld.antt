@@ -1,13 +1,10 @@
 -- What the scripts of an accepted file have.
-use Rattle.std.proofs.Common.{◌≡◌, ℕ, ◌<◌, List, length, map, refl, sym, subst, arith}
-use Rattle.std.specs.Prelude.{slice_get, Option, Some}
+use Rattle.std.proofs.Common.{◌≡◌, ℕ, List, length, map, refl, sym, subst, arith}
+use Rattle.std.specs.Prelude.{slice_get, Some}
 use Rattle.project_file.specs.declared.blocks.Block.{Block}
-use Rattle.project_file.specs.declared.refusals.Refusal.TheVariants as refusal
-use Rattle.project_file.specs.Linked.{Leads, Chain, one, more, IsCyclic}
+use Rattle.project_file.specs.Linked.{Chain, one, more, IsCyclic}
 use Rattle.project_file.specs.Reading.{File, blocks_in}
-use Rattle.project_file.specs.Resolving.{resolved_targets}
 use Rattle.project_file.specs.Refusals as file
-use Rattle.project_file.specs.Trees.{program}
 use Rattle.legal_threads.specs.Scripts.{IsProgram}
 use Rattle.loaded_programs.specs.Laws.{ScriptsAreLegal, BlocksAreTold, BlocksAreInOrder}
 use Rattle.loaded_programs.specs.Scripts.{BlocksTell, IsInOrder}

@@ -1,5 +1,5 @@
 -- The statements of a target's scripts stand in it, and the scripts of its procedures are not empty.
-use Rattle.std.proofs.Common.{◌≡◌, ℕ, zero, suc, ◌<◌, List, [], length, refl, sym, subst, arith}
+use Rattle.std.proofs.Common.{◌≡◌, ℕ, zero, suc, ◌<◌, List, length, refl, sym, subst, arith}
 use Rattle.std.specs.Prelude.{slice_get, Option, None, Some, IfSome}
 use Rattle.std.proofs.lemmas.Option.{slice_get_within}
 use Rattle.script_machine.specs.Script.{Script, End, Then, Statement, Does, Branches, NoBranch, AndBranch, place_of}
