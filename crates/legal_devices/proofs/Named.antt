@@ -3,7 +3,7 @@ use Rattle.std.proofs.Common.{◌≡◌, ℕ, ◌+◌, ◌-◌, ◌<◌, ◌≤�
 use Rattle.std.specs.Prelude.{codes, bytes_eq, ◌&&◌, not, encode_utf8, nat_lt}
 use Rattle.std.specs.Char.{IsScalar, to_ascii_uppercase, is_whitespace}
 use Rattle.std.specs.List.{after_first, position_or_len}
-use Rattle.std.specs.Str.{IsUtf8, is_utf8, chars, all_scalars}
+use Rattle.std.specs.Str.{IsUtf8, chars, all_scalars}
 use Rattle.std.proofs.lemmas.Bool.Decides.{nat_tests}
 use Rattle.std.proofs.lemmas.List.{drop_all}
 use Rattle.std.proofs.lemmas.List.Sums.{prefix_len_stops}
@@ -12,7 +12,6 @@ use Rattle.std.proofs.lemmas.Str.{IsUtf8-encode, IsUtf8-nil, IsUtf8-drop, IsChar
 use Rattle.std.proofs.lemmas.Str.Ascii.{uppercase-uppercase}
 use Rattle.script_machine.specs.declared.devices.Key.{Key}
 use Rattle.script_machine.specs.declared.devices.Key.TheVariants.{Space, Enter, Left, Right, Up, Down, One}
-use Rattle.script_machine.specs.Line.{key_name}
 use Rattle.script_machine.specs.ScriptText.{key_of_rest, one_key}
 use Rattle.script_machine.specs.Sensing.{key_named, key_or}
 use Rattle.legal_threads.proofs.Numbers.{equal}

@@ -1,6 +1,6 @@
 -- A line that is read is a good one.
 use Rattle.std.proofs.Common.{◌≡◌, ℕ, ◌*◌, ◌^◌, ◌≤◌, Bool, true, false, cond, List, [], ◌∷◌, length, Option, Some, None, refl, subst, arith}
-use Rattle.std.specs.Prelude.{bytes_eq, codes, nat_le, nat_lt, ℤ, pos, negsuc, neg_ℤ, ◌&&◌, unsigned_abs}
+use Rattle.std.specs.Prelude.{bytes_eq, codes, nat_le, nat_lt, ℤ, pos, negsuc, neg_ℤ, unsigned_abs}
 use Rattle.std.proofs.lemmas.Bool.Decides.{nat_tests}
 use Rattle.std.proofs.lemmas.Int.{ints}
 use Rattle.std.proofs.lemmas.Str.{IsUtf8-from_is_utf8}

@@ -1,5 +1,5 @@
 -- What the devices and the counters of a run are, between two lines of a script and during a frame.
-use Rattle.std.specs.Prelude.{◌≡◌, ℕ, ◌<◌, ◌≤◌, pos, int_le, true, List, [], ◌∷◌, map, length, unsigned_abs, bytes_eq, false}
+use Rattle.std.specs.Prelude.{◌≡◌, ℕ, ◌<◌, ◌≤◌, pos, int_le, true, List, [], ◌∷◌, length, unsigned_abs, bytes_eq, false}
 use Rattle.scratch_number.specs.declared.number.Num.{Num}
 use Rattle.scratch_number.specs.declared.number.Num.TheVariants.{Fixed, Inf, NegInf, Nan}
 use Rattle.script_machine.specs.declared.devices.BubbleTimer.{BubbleTimer}

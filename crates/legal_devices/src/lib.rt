@@ -3,4 +3,6 @@
 
 mod laws;
 
-pub use laws::{a_line_keeps_devices_legal, a_line_that_is_read_is_good, the_first_world_has_legal_devices};
+pub use laws::{
+    a_line_keeps_devices_legal, a_line_that_is_read_is_good, the_first_world_has_legal_devices,
+};

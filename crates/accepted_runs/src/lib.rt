@@ -1,0 +1,2 @@
+//! What is accepted as a saved run tells a world like those that runs reach: a law over definitions. There is no code here.
+#![tactic(auto)]

@@ -1,0 +1,2 @@
+//! The worlds of a run can be saved, and are told by their texts: laws over definitions. There is no code here.
+#![tactic(auto)]
