@@ -12,3 +12,9 @@ pub mod Reached
 pub mod NumbersHeld
 pub mod NamesShown
 pub mod TargetsHeld
+pub mod Trails
+pub mod Prototypes
+pub mod BlocksBegin
+pub mod InOrder
+pub mod Standing
+pub mod ScriptsHeld
