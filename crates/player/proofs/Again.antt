@@ -21,28 +21,19 @@ use Rattle.saved_rules.specs.Legal.{told}
 use Rattle.saved_rules.specs.Refusals.{IsAccepted as IsSavedRun}
 use Rattle.saved_rules.specs.RunShapes.{Told}
 use Rattle.legal_words.specs.Words.{words_after}
-use Rattle.legal_runs.specs.Laws.{EachFileIsGood, FirstIsReached, LastIsReached, TextIsAccepted, WorldIsTold}
 use Rattle.legal_runs.specs.Reached.{IsDigest, IsGood, IsReached}
 use Rattle.legal_runs.specs.Worlds.{world_told}
-use Rattle.accepted_runs.specs.Laws.{AcceptedIsReached}
-use Rattle.player.specs.Command.{Form, ResumeForm, play, resume}
+use Rattle.player.specs.Command.{Command, Form, ResumeForm, check, play, resume}
 use Rattle.player.specs.Limits.{project_limit, saved_limit, script_limit}
 use Rattle.player.specs.Promise.{accepted, Bases, continued, Continues, Ending, ran, unsaved, Outcome, Resumable, SavesAgain, TellsAgain, all_of, at_ending, limit_save_line, fetched, outcome_of, output_from, output_of, put_or_told, resume_outcome, text_from, text_of_run, words_of}
-use Rattle.player.specs.Saving.{SavesInRange}
+use Rattle.player.specs.Stages.{IsLimitEnd}
+use Rattle.player.specs.declared.status.Limit.{Limit as LimitMet}
+use Rattle.player.specs.Saving.{RunLaws, SavesInRange}
 use Rattle.player.specs.declared.status.Status.{Status}
 use Rattle.player.specs.declared.status.Status.TheVariants.{Done, Usage, ReadFault, WriteFault, BadProject, BadSave, BadScript, Limit, TooLarge, NoMemory}
 use Rattle.player.specs.declared.status.Which.TheVariants as which
 use Rattle.player.proofs.Calls.{fetched_ok, seeded_words}
 use Rattle.player.proofs.Resumes.{one_basis}
-
--- the laws of runs that are cited
-pub record RunLaws : Type 0 where
-  pub good : EachFileIsGood
-  pub first : FirstIsReached
-  pub last : LastIsReached
-  pub text : TextIsAccepted
-  pub world : WorldIsTold
-  pub accepted_runs : AcceptedIsReached
 
 module _ (laws : RunLaws) (b : Basis) (good : IsGood b) (project : List ℕ) (digest : IsDigest (sha256 project)) (seed : ℕ) where
   -- the text of a world that a run can reach
@@ -158,3 +149,50 @@ module _ (laws : RunLaws) (one : OneAnswer) (form : ResumeForm) (file saved scri
   resume_resumable held (Limit l) found kept scripted ranges = tt
   resume_resumable held (TooLarge which limit) found kept scripted ranges = tt
   resume_resumable held NoMemory found kept scripted ranges = tt
+
+-- Where nothing was saved
+
+pub not_done_again : (held : Option Files) (command : Command) (status : Status) → (status ≡ Done → ⊥) → Resumable held command status
+not_done_again held (play form) Done n = absurd (n refl)
+not_done_again held (resume form) Done n = absurd (n refl)
+not_done_again held (check project) Done n = tt
+not_done_again held command Usage n = tt
+not_done_again held command ReadFault n = tt
+not_done_again held command WriteFault n = tt
+not_done_again held command (BadProject r) n = tt
+not_done_again held command (BadSave r) n = tt
+not_done_again held command (BadScript r) n = tt
+not_done_again held command (Limit l) n = tt
+not_done_again held command (TooLarge which limit) n = tt
+not_done_again held command NoMemory n = tt
+
+-- what a run that was saved is in, by the status
+pub in_range : (digest : List ℕ) (seed : ℕ) (name : List ℕ) (w : World Task) (status : Status) → IsRun IsTask (snapshot digest seed w) → SavesInRange digest seed (Some name) (Whole w) status
+in_range digest seed name w Done h = h
+in_range digest seed name w Usage h = tt
+in_range digest seed name w ReadFault h = tt
+in_range digest seed name w WriteFault h = tt
+in_range digest seed name w (BadProject r) h = tt
+in_range digest seed name w (BadSave r) h = tt
+in_range digest seed name w (BadScript r) h = tt
+in_range digest seed name w (Limit l) h = tt
+in_range digest seed name w (TooLarge which limit) h = tt
+in_range digest seed name w NoMemory h = tt
+
+pub unsaved_in_range : (digest : List ℕ) (seed : ℕ) (save : Option (List ℕ)) (ending : RunEnding) (status : Status) → (status ≡ Done → ⊥) → SavesInRange digest seed save ending status
+unsaved_in_range digest seed None ending status n = tt
+unsaved_in_range digest seed (Some name) (BadLine r) status n = tt
+unsaved_in_range digest seed (Some name) (Limited s) status n = tt
+unsaved_in_range digest seed (Some name) (Whole w) Done n = absurd (n refl)
+unsaved_in_range digest seed (Some name) (Whole w) Usage n = tt
+unsaved_in_range digest seed (Some name) (Whole w) ReadFault n = tt
+unsaved_in_range digest seed (Some name) (Whole w) WriteFault n = tt
+unsaved_in_range digest seed (Some name) (Whole w) (BadProject r) n = tt
+unsaved_in_range digest seed (Some name) (Whole w) (BadSave r) n = tt
+unsaved_in_range digest seed (Some name) (Whole w) (BadScript r) n = tt
+unsaved_in_range digest seed (Some name) (Whole w) (Limit l) n = tt
+unsaved_in_range digest seed (Some name) (Whole w) (TooLarge which limit) n = tt
+unsaved_in_range digest seed (Some name) (Whole w) NoMemory n = tt
+
+pub long_not_done : (l : LimitMet) (status : Status) → IsLimitEnd l status → status ≡ Done → ⊥
+long_not_done l status h e = subst (IsLimitEnd l) e h

@@ -8,6 +8,8 @@ use Rattle.script_machine.specs.Tasks.{Task}
 use Rattle.script_machine.specs.World.{World}
 use Rattle.saved_text.specs.Ranges.{IsRun, IsTask}
 use Rattle.saved_text.specs.Saved.{snapshot}
+use Rattle.legal_runs.specs.Laws.{EachFileIsGood, FirstIsReached, LastIsReached, TextIsAccepted, WorldIsTold}
+use Rattle.accepted_runs.specs.Laws.{AcceptedIsReached}
 use Rattle.player.specs.Promise.{Outcome, PutFailed, Shelved, Wrote, Writes, counted, puts_of}
 use Rattle.player.specs.Stages.{PlayedSteadily, PlayedTo}
 use Rattle.player.specs.declared.status.Status.{Status}
@@ -77,3 +79,12 @@ pub record EndsAs (save : Option (List ℕ)) (o : Outcome) (s t : ShelfNow) (k l
 abbrev pub SavesInRange : (digest : List ℕ) → (seed : ℕ) → (save : Option (List ℕ)) → RunEnding → Status → Type 0
 SavesInRange digest seed (Some name) (Whole last) Done = IsRun IsTask (snapshot digest seed last)
 SavesInRange digest seed save ending status = Unit {0}
+
+-- the laws of runs that are cited where one is saved
+pub record RunLaws : Type 0 where
+  pub good : EachFileIsGood
+  pub first : FirstIsReached
+  pub last : LastIsReached
+  pub text : TextIsAccepted
+  pub world : WorldIsTold
+  pub accepted_runs : AcceptedIsReached

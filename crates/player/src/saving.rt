@@ -12,10 +12,15 @@ ghost use Rattle.sequencer.specs.Runs.{world_of, IsRunOf};
 ghost use Rattle.player.specs.Command.{name_to_save};
 ghost use Rattle.player.specs.Limits.{script_limit};
 ghost use Rattle.player.specs.Promise.{all_of, output_of, put_or_told, text_from, words_of};
-ghost use Rattle.player.specs.Saving.{EndsAs, PutEnds, PutSteadily, SavesInRange, shelf_now, sink_now};
+ghost use Rattle.player.specs.Saving.{EndsAs, PutEnds, PutSteadily, RunLaws, SavesInRange, shelf_now, sink_now};
 
+use accepted_runs::an_accepted_saved_run_tells_a_reached_world;
 use crate::lines::{play_lines, tell_limit};
 use crate::status::{Limit, Status};
+use legal_runs::{
+    every_accepted_file_is_playable, the_first_world_is_reached, the_last_world_is_reached,
+    the_text_of_a_run_is_accepted, the_world_of_a_run_is_told,
+};
 use project_check::Project;
 use saved_text::{SaveStop, SavedRun, a_saved_run_is_its_world, save, what_is_left_is_in_range};
 use script_words::{Rng, pcg};
@@ -28,6 +33,18 @@ use sv_channels::{PutError, Shelf, Sink};
 pub(crate) struct Origin {
     pub(crate) digest: [u8; 32],
     pub(crate) seed: u64,
+}
+
+// The laws of runs that are cited where one is saved.
+pub(crate) fn runs_are_told_again()
+    ensures { RunLaws }
+{
+    every_accepted_file_is_playable();
+    the_first_world_is_reached();
+    the_last_world_is_reached();
+    the_text_of_a_run_is_accepted();
+    the_world_of_a_run_is_told();
+    an_accepted_saved_run_tells_a_reached_world();
 }
 
 // The text of a saved run.

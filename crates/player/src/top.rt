@@ -9,7 +9,7 @@ ghost use Rattle.player.specs.Stages.{PlayedTo, PlayedSteadily};
 use crate::command::{Command, command_of};
 use crate::counts::{Counts, accepted_line};
 use crate::fetching::{count, fetch, load_project, load_saved};
-use crate::saving::{Origin, play_first, play_on};
+use crate::saving::{Origin, play_first, play_on, runs_are_told_again};
 use crate::status::{Status, Which};
 use saved_rules::one_answer_at_most;
 use sha2::{Digest, Sha256};
@@ -44,6 +44,7 @@ fn run<H: Shelf, K: Sink>(
     ensures writes { Promised (H.held shelf.old) (play_of (record { project = project.now; script = script.now; seed = seed; save = name_to_save save.now })) (λ o. Writes (K.calls out.old) (K.calls out.new) (PutFailed (H.put_faults shelf.old) (H.put_faults shelf.new) (name_to_save save.now)) o.texts result) }
     ensures resumable { Resumable (H.held shelf.old) (play_of (record { project = project.now; script = script.now; seed = seed; save = name_to_save save.now })) result }
 {
+    runs_are_told_again();
     let file = match fetch(alloc, shelf, project, Which::Project, PROJECT_LIMIT) {
         Ok(bytes) => bytes,
         Err(status) => return status,
@@ -84,6 +85,7 @@ fn resume<H: Shelf, K: Sink>(
     ensures resumable { Resumable (H.held shelf.old) (resume_of (record { project = project.now; saved = saved.now; script = script.now; save = name_to_save save.now })) result }
 {
     one_answer_at_most();
+    runs_are_told_again();
     let file = match fetch(alloc, shelf, project, Which::Project, PROJECT_LIMIT) {
         Ok(bytes) => bytes,
         Err(status) => return status,

@@ -6,12 +6,12 @@ use Rattle.script_machine.specs.ScriptText.{lines_of}
 use Rattle.project_check.specs.Loaded.{program_of}
 use Rattle.player.specs.Command.{name_to_save}
 use Rattle.player.specs.Promise.{all_of, text_from}
-use Rattle.player.specs.Saving.{EndsAs, shelf_now, sink_now}
+use Rattle.player.specs.Saving.{EndsAs, SavesInRange, shelf_now, sink_now}
 use Rattle.player.proofs.Calls.{seeded_words}
 use Rattle.player.proofs.saving.play_first.Goals as goal
 
-pub returns : goal.returns
-returns g c =
+pub returns-clause-ends : goal.returns-clause-ends
+returns-clause-ends g c =
     let p = program_of c.args.project.now in
     let save = name_to_save c.args.save.now in
     let s = shelf_now g.H.Shelf.held g.H.Shelf.fetch_faults g.H.Shelf.put_faults g.H.Shelf.calls c.args.shelf.now in
@@ -20,4 +20,11 @@ returns g c =
     let l = sink_now g.K.Sink.written g.K.Sink.faults g.K.Sink.calls c.play_on.new.out in
     let words = seeded_words c.args.origin.seed c.pcg.result.drawn (answers c.pcg.result.source) c.pcg.ensures.drawn c.pcg.ensures.stream in
     subst (λ v. EndsAs save (all_of save (text_from c.args.origin.digest c.args.origin.seed) (played p 1 v.devices.clock v (lines_of c.args.script.now))) s t k l c.play_on.result)
-    (c.in-Ok.ensures.world ∙ ap (first_world p) words) c.play_on.ensures
+    (c.in-Ok.ensures.world ∙ ap (first_world p) words) c.play_on.ensures.ends
+
+pub returns-clause-ranges : goal.returns-clause-ranges
+returns-clause-ranges g c =
+    let p = program_of c.args.project.now in
+    let words = seeded_words c.args.origin.seed c.pcg.result.drawn (answers c.pcg.result.source) c.pcg.ensures.drawn c.pcg.ensures.stream in
+    subst (λ v. SavesInRange c.args.origin.digest c.args.origin.seed (name_to_save c.args.save.now) (played p 1 v.devices.clock v (lines_of c.args.script.now)).ending c.play_on.result)
+    (c.in-Ok.ensures.world ∙ ap (first_world p) words) c.play_on.ensures.ranges

@@ -242,32 +242,32 @@ returns-in-Err-fetch-2-clause-calls g c =
 
 pub returns-clause-fault : goal.returns-clause-fault
 returns-clause-fault g c =
-    fault_cause _ _ _ _ _ c.play_on.result (put_failed_before _ _ _ _ (none_rose_behind _ _ _ (none_rose_behind _ _ _ c.in-Ok.ensures.put_faults c.in-Ok-fetch.ensures.put_faults) c.in-Ok-fetch-2.ensures.put_faults)) c.play_on.ensures.cause
+    fault_cause _ _ _ _ _ c.play_on.result (put_failed_before _ _ _ _ (none_rose_behind _ _ _ (none_rose_behind _ _ _ c.in-Ok.ensures.put_faults c.in-Ok-fetch.ensures.put_faults) c.in-Ok-fetch-2.ensures.put_faults)) c.play_on.ensures.ends.cause
 
 pub returns-clause-silent : goal.returns-clause-silent
 returns-clause-silent g c =
-    silent_cause _ _ _ _ c.play_on.result c.play_on.ensures.cause
+    silent_cause _ _ _ _ c.play_on.result c.play_on.ensures.ends.cause
 
 pub returns-clause-no_usage : goal.returns-clause-no_usage
 returns-clause-no_usage g c =
-    no_usage _ _ c.play_on.result c.play_on.ensures.cause
+    no_usage _ _ c.play_on.result c.play_on.ensures.ends.cause
 
 pub returns-clause-honest : goal.returns-clause-honest
 returns-clause-honest g c =
-    hides_nothing _ _ _ _ _ _ _ _ c.play_on.result c.play_on.ensures.cause
-    (none_rose_behind _ _ _ (none_rose_behind _ _ _ (none_rose_behind _ _ _ c.in-Ok.ensures.steady c.in-Ok-fetch.ensures.steady) c.in-Ok-fetch-2.ensures.steady) c.play_on.ensures.fetches)
-    (steady_behind _ _ _ c.play_on.result (none_rose_behind _ _ _ (none_rose_behind _ _ _ c.in-Ok.ensures.put_faults c.in-Ok-fetch.ensures.put_faults) c.in-Ok-fetch-2.ensures.put_faults) c.play_on.ensures.puts)
-    c.play_on.ensures.steady
+    hides_nothing _ _ _ _ _ _ _ _ c.play_on.result c.play_on.ensures.ends.cause
+    (none_rose_behind _ _ _ (none_rose_behind _ _ _ (none_rose_behind _ _ _ c.in-Ok.ensures.steady c.in-Ok-fetch.ensures.steady) c.in-Ok-fetch-2.ensures.steady) c.play_on.ensures.ends.fetches)
+    (steady_behind _ _ _ c.play_on.result (none_rose_behind _ _ _ (none_rose_behind _ _ _ c.in-Ok.ensures.put_faults c.in-Ok-fetch.ensures.put_faults) c.in-Ok-fetch-2.ensures.put_faults) c.play_on.ensures.ends.puts)
+    c.play_on.ensures.ends.steady
 
 pub returns-clause-held : goal.returns-clause-held
 returns-clause-held g c =
     let same = c.in-Ok-fetch-2.ensures.held ∙ c.in-Ok-fetch.ensures.held ∙ c.in-Ok.ensures.held in
     subst (λ held. IsUnshelved held (g.H.Shelf.held c.play_on.new.shelf) (name_to_save c.args.save.now) c.play_on.result) same
-    (unshelved_cause _ _ _ _ _ c.play_on.result c.play_on.ensures.shelf)
+    (unshelved_cause _ _ _ _ _ c.play_on.result c.play_on.ensures.ends.shelf)
 
 pub returns-clause-calls : goal.returns-clause-calls
 returns-clause-calls g c =
-    played_calls 3 _ _ _ _ _ _ c.play_on.result c.play_on.ensures.cause (c.in-Ok-fetch-2.ensures.calls ∙ ap next_count (c.in-Ok-fetch.ensures.calls ∙ ap next_count c.in-Ok.ensures.calls)) c.play_on.ensures.calls
+    played_calls 3 _ _ _ _ _ _ c.play_on.result c.play_on.ensures.ends.cause (c.in-Ok-fetch-2.ensures.calls ∙ ap next_count (c.in-Ok-fetch.ensures.calls ∙ ap next_count c.in-Ok.ensures.calls)) c.play_on.ensures.ends.calls
 
 pub returns-clause-exact : goal.returns-clause-exact
 returns-clause-exact g c =
@@ -294,7 +294,7 @@ returns-clause-exact g c =
     let wanted = Rose (g.H.Shelf.wants c.args.shelf.now) (g.H.Shelf.wants c.play_on.new.shelf) in
     let P : Outcome → Type 0 = λ o. AnswerCause failed saved_failed wanted o.ending c.play_on.result in
     at_resumed_end c.one_answer_at_most.ensures.accepted P held form file b bytes t text c.digest-digest.result seed v project basis saved accepted script digest told.3 told.2
-    (played_cause _ failed saved_failed wanted _ c.play_on.result (all_ending save (text_from c.digest-digest.result seed) output) c.play_on.ensures.cause)
+    (played_cause _ failed saved_failed wanted _ c.play_on.result (all_ending save (text_from c.digest-digest.result seed) output) c.play_on.ensures.ends.cause)
 
 pub returns-clause-bytes : goal.returns-clause-bytes
 returns-clause-bytes g c =
@@ -318,7 +318,7 @@ returns-clause-bytes g c =
     let output = played b.program 1 v.devices.clock v (lines_of text) in
     let P : Outcome → Type 0 = λ o. Wrote (g.K.Sink.written c.args.out.now) (g.K.Sink.written c.play_on.new.out) o.texts c.play_on.result in
     at_resumed_end c.one_answer_at_most.ensures.accepted P held form file b bytes t text c.digest-digest.result seed v project basis saved accepted script digest told.3 told.2
-    c.play_on.ensures.bytes
+    c.play_on.ensures.ends.bytes
 
 pub returns-clause-writes : goal.returns-clause-writes
 returns-clause-writes g c =
@@ -344,7 +344,7 @@ returns-clause-writes g c =
     let before = put_failed_before _ _ _ _ (none_rose_behind _ _ _ (none_rose_behind _ _ _ c.in-Ok.ensures.put_faults c.in-Ok-fetch.ensures.put_faults) c.in-Ok-fetch-2.ensures.put_faults) in
     let P : Outcome → Type 0 = λ o. Writes (g.K.Sink.calls c.args.out.now) (g.K.Sink.calls c.play_on.new.out) put_failed o.texts c.play_on.result in
     at_resumed_end c.one_answer_at_most.ensures.accepted P held form file b bytes t text c.digest-digest.result seed v project basis saved accepted script digest told.3 told.2
-    (writes_cause (g.K.Sink.calls c.args.out.now) (g.K.Sink.calls c.play_on.new.out) (PutFailed (g.H.Shelf.put_faults c.fetch-3.new.shelf) (g.H.Shelf.put_faults c.play_on.new.shelf) save) put_failed (all_of save (text_from c.digest-digest.result seed) output).texts c.play_on.result before c.play_on.ensures.writes)
+    (writes_cause (g.K.Sink.calls c.args.out.now) (g.K.Sink.calls c.play_on.new.out) (PutFailed (g.H.Shelf.put_faults c.fetch-3.new.shelf) (g.H.Shelf.put_faults c.play_on.new.shelf) save) put_failed (all_of save (text_from c.digest-digest.result seed) output).texts c.play_on.result before c.play_on.ensures.ends.writes)
 
 pub returns-clause-shelved : goal.returns-clause-shelved
 returns-clause-shelved g c =
@@ -371,4 +371,4 @@ returns-clause-shelved g c =
     let P : Outcome → Type 0 = λ o. Shelved held (g.H.Shelf.held c.play_on.new.shelf) put_failed save o c.play_on.result in
     let same = c.in-Ok-fetch-2.ensures.held ∙ c.in-Ok-fetch.ensures.held ∙ c.in-Ok.ensures.held in
     at_resumed_end c.one_answer_at_most.ensures.accepted P held form file b bytes t text c.digest-digest.result seed v project basis saved accepted script digest told.3 told.2
-    (subst (λ h. Shelved h (g.H.Shelf.held c.play_on.new.shelf) put_failed save (all_of save (text_from c.digest-digest.result seed) output) c.play_on.result) same (shelved_cause _ _ _ put_failed _ _ c.play_on.result before c.play_on.ensures.shelf))
+    (subst (λ h. Shelved h (g.H.Shelf.held c.play_on.new.shelf) put_failed save (all_of save (text_from c.digest-digest.result seed) output) c.play_on.result) same (shelved_cause _ _ _ put_failed _ _ c.play_on.result before c.play_on.ensures.ends.shelf))

@@ -65,30 +65,30 @@ returns-in-Err-fetch-clause-calls g c = (
 -- the lines are played, and the run is saved
 
 pub returns-clause-fault : goal.returns-clause-fault
-returns-clause-fault g c = fault_cause _ _ _ _ _ c.play_first.result (put_failed_before _ _ _ _ (none_rose_behind _ _ _ c.in-Ok.ensures.put_faults c.in-Ok-fetch.ensures.put_faults)) c.play_first.ensures.cause
+returns-clause-fault g c = fault_cause _ _ _ _ _ c.play_first.result (put_failed_before _ _ _ _ (none_rose_behind _ _ _ c.in-Ok.ensures.put_faults c.in-Ok-fetch.ensures.put_faults)) c.play_first.ensures.ends.cause
 
 pub returns-clause-silent : goal.returns-clause-silent
-returns-clause-silent g c = silent_cause _ _ _ _ c.play_first.result c.play_first.ensures.cause
+returns-clause-silent g c = silent_cause _ _ _ _ c.play_first.result c.play_first.ensures.ends.cause
 
 pub returns-clause-no_usage : goal.returns-clause-no_usage
-returns-clause-no_usage g c = no_usage _ _ c.play_first.result c.play_first.ensures.cause
+returns-clause-no_usage g c = no_usage _ _ c.play_first.result c.play_first.ensures.ends.cause
 
 pub returns-clause-honest : goal.returns-clause-honest
 returns-clause-honest g c =
-    hides_nothing _ _ _ _ _ _ _ _ c.play_first.result c.play_first.ensures.cause
-    (none_rose_behind _ _ _ (none_rose_behind _ _ _ c.in-Ok.ensures.steady c.in-Ok-fetch.ensures.steady) c.play_first.ensures.fetches)
-    (steady_behind _ _ _ c.play_first.result (none_rose_behind _ _ _ c.in-Ok.ensures.put_faults c.in-Ok-fetch.ensures.put_faults) c.play_first.ensures.puts)
-    c.play_first.ensures.steady
+    hides_nothing _ _ _ _ _ _ _ _ c.play_first.result c.play_first.ensures.ends.cause
+    (none_rose_behind _ _ _ (none_rose_behind _ _ _ c.in-Ok.ensures.steady c.in-Ok-fetch.ensures.steady) c.play_first.ensures.ends.fetches)
+    (steady_behind _ _ _ c.play_first.result (none_rose_behind _ _ _ c.in-Ok.ensures.put_faults c.in-Ok-fetch.ensures.put_faults) c.play_first.ensures.ends.puts)
+    c.play_first.ensures.ends.steady
 
 pub returns-clause-held : goal.returns-clause-held
 returns-clause-held g c =
     let same = c.in-Ok-fetch.ensures.held ∙ c.in-Ok.ensures.held in
     subst (λ held. IsUnshelved held (g.H.Shelf.held c.play_first.new.shelf) (name_to_save c.args.save.now) c.play_first.result) same
-    (unshelved_cause _ _ _ _ _ c.play_first.result c.play_first.ensures.shelf)
+    (unshelved_cause _ _ _ _ _ c.play_first.result c.play_first.ensures.ends.shelf)
 
 pub returns-clause-calls : goal.returns-clause-calls
 returns-clause-calls g c =
-    played_calls 2 _ _ _ _ _ _ c.play_first.result c.play_first.ensures.cause (c.in-Ok-fetch.ensures.calls ∙ ap next_count c.in-Ok.ensures.calls) c.play_first.ensures.calls
+    played_calls 2 _ _ _ _ _ _ c.play_first.result c.play_first.ensures.ends.cause (c.in-Ok-fetch.ensures.calls ∙ ap next_count c.in-Ok.ensures.calls) c.play_first.ensures.ends.calls
 
 pub returns-clause-exact : goal.returns-clause-exact
 returns-clause-exact g c =
@@ -104,7 +104,7 @@ returns-clause-exact g c =
     let wanted = Rose (g.H.Shelf.wants c.args.shelf.now) (g.H.Shelf.wants c.play_first.new.shelf) in
     let P : Outcome → Type 0 = λ o. AnswerCause failed ⊥ wanted o.ending c.play_first.result in
     at_accepted Loads (after_load form) P held form.project file p (project_reading file) project c.in-Ok-load_project.ensures.program
-    (at_end P held form file text c.digest-digest.result p (c.digest-digest.ensures ∙ ap sha256 (sym c.deref.ensures.value)) script (played_cause _ failed ⊥ wanted _ c.play_first.result (all_ending save (text_from c.digest-digest.result c.args.seed) (output_of p (words_of c.args.seed) text)) c.play_first.ensures.cause))
+    (at_end P held form file text c.digest-digest.result p (c.digest-digest.ensures ∙ ap sha256 (sym c.deref.ensures.value)) script (played_cause _ failed ⊥ wanted _ c.play_first.result (all_ending save (text_from c.digest-digest.result c.args.seed) (output_of p (words_of c.args.seed) text)) c.play_first.ensures.ends.cause))
 
 pub returns-clause-bytes : goal.returns-clause-bytes
 returns-clause-bytes g c =
@@ -118,7 +118,7 @@ returns-clause-bytes g c =
     let script = fetched_file _ held form.script script_limit c.in-Ok-fetch.bytes.items text c.in-Ok.ensures.held c.deref-2.ensures.value c.in-Ok-fetch.ensures.answer in
     let P : Outcome → Type 0 = λ o. Wrote (g.K.Sink.written c.args.out.now) (g.K.Sink.written c.play_first.new.out) o.texts c.play_first.result in
     at_accepted Loads (after_load form) P held form.project file p (project_reading file) project c.in-Ok-load_project.ensures.program
-    (at_end P held form file text c.digest-digest.result p (c.digest-digest.ensures ∙ ap sha256 (sym c.deref.ensures.value)) script (c.play_first.ensures.bytes))
+    (at_end P held form file text c.digest-digest.result p (c.digest-digest.ensures ∙ ap sha256 (sym c.deref.ensures.value)) script (c.play_first.ensures.ends.bytes))
 
 pub returns-clause-writes : goal.returns-clause-writes
 returns-clause-writes g c =
@@ -134,7 +134,7 @@ returns-clause-writes g c =
     let before = put_failed_before _ _ _ _ (none_rose_behind _ _ _ c.in-Ok.ensures.put_faults c.in-Ok-fetch.ensures.put_faults) in
     let P : Outcome → Type 0 = λ o. Writes (g.K.Sink.calls c.args.out.now) (g.K.Sink.calls c.play_first.new.out) put_failed o.texts c.play_first.result in
     at_accepted Loads (after_load form) P held form.project file p (project_reading file) project c.in-Ok-load_project.ensures.program
-    (at_end P held form file text c.digest-digest.result p (c.digest-digest.ensures ∙ ap sha256 (sym c.deref.ensures.value)) script (writes_cause (g.K.Sink.calls c.args.out.now) (g.K.Sink.calls c.play_first.new.out) (PutFailed (g.H.Shelf.put_faults c.fetch-2.new.shelf) (g.H.Shelf.put_faults c.play_first.new.shelf) save) put_failed (all_of save (text_from c.digest-digest.result c.args.seed) (output_of p (words_of c.args.seed) text)).texts c.play_first.result before c.play_first.ensures.writes))
+    (at_end P held form file text c.digest-digest.result p (c.digest-digest.ensures ∙ ap sha256 (sym c.deref.ensures.value)) script (writes_cause (g.K.Sink.calls c.args.out.now) (g.K.Sink.calls c.play_first.new.out) (PutFailed (g.H.Shelf.put_faults c.fetch-2.new.shelf) (g.H.Shelf.put_faults c.play_first.new.shelf) save) put_failed (all_of save (text_from c.digest-digest.result c.args.seed) (output_of p (words_of c.args.seed) text)).texts c.play_first.result before c.play_first.ensures.ends.writes))
 
 pub returns-clause-shelved : goal.returns-clause-shelved
 returns-clause-shelved g c =
@@ -151,4 +151,4 @@ returns-clause-shelved g c =
     let P : Outcome → Type 0 = λ o. Shelved held (g.H.Shelf.held c.play_first.new.shelf) put_failed save o c.play_first.result in
     let same = c.in-Ok-fetch.ensures.held ∙ c.in-Ok.ensures.held in
     at_accepted Loads (after_load form) P held form.project file p (project_reading file) project c.in-Ok-load_project.ensures.program
-    (at_end P held form file text c.digest-digest.result p (c.digest-digest.ensures ∙ ap sha256 (sym c.deref.ensures.value)) script (subst (λ h. Shelved h (g.H.Shelf.held c.play_first.new.shelf) put_failed save (all_of save (text_from c.digest-digest.result c.args.seed) (output_of p (words_of c.args.seed) text)) c.play_first.result) same (shelved_cause _ _ _ put_failed _ _ c.play_first.result before c.play_first.ensures.shelf)))
+    (at_end P held form file text c.digest-digest.result p (c.digest-digest.ensures ∙ ap sha256 (sym c.deref.ensures.value)) script (subst (λ h. Shelved h (g.H.Shelf.held c.play_first.new.shelf) put_failed save (all_of save (text_from c.digest-digest.result c.args.seed) (output_of p (words_of c.args.seed) text)) c.play_first.result) same (shelved_cause _ _ _ put_failed _ _ c.play_first.result before c.play_first.ensures.ends.shelf)))
