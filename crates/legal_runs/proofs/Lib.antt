@@ -1,0 +1,5 @@
+pub mod First
+pub mod Tests
+pub mod DeviceRules
+pub mod Counting
+pub mod InstanceRules
