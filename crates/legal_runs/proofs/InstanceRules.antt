@@ -45,7 +45,7 @@ effect_between low high None h = absurd h
 effect_between low high (Some n) h = between low high n h
 
 as_the_stage : (i : Instance) → IsAsTheStage i.x i.y i.size i.direction i.visible → rules.is_as_the_stage i ≡ true
-as_the_stage i h = both_true _ _ (both_true _ _ (both_true _ _ (both_true _ _ (between _ _ i.x h.x_is) (between _ _ i.y h.y_is)) (between _ _ i.size h.size_is)) (between _ _ i.direction h.direction_is)) h.visible_is
+as_the_stage i h = both_true _ _ (both_true _ _ (both_true _ _ (both_true _ _ (between (pos 0) (pos 0) i.x h.x_is) (between (pos 0) (pos 0) i.y h.y_is)) (between (pos 100000000) (pos 100000000) i.size h.size_is)) (between (pos 90000000) (pos 90000000) i.direction h.direction_is)) h.visible_is
 
 sprite_by : (ts : List TargetRecord) (k : ℕ) → k < length ts → (unwrap_or (slice_get ts k) no_target).is_stage ≡ false → option_map_or (λ r. not r.is_stage) (slice_get ts k) false ≡ true
 sprite_by [] k l e = absurd (omega arith)
@@ -100,14 +100,14 @@ module _ (b : Basis) (seed : ℕ) (digest : List ℕ) (w : World Task) (h : IsRe
   costumes_there = all_true Legal _ w.targets (λ i k. less_true _ _ k.costume) h.instances.each
 
   pub sizes_in_range : rules.sizes_are_in_range tells ≡ true
-  sizes_in_range = all_true Legal _ w.targets (λ i k. between _ _ i.size k.size) h.instances.each
+  sizes_in_range = all_true Legal _ w.targets (λ i k. between (pos 0) (pos 10000000000) i.size k.size) h.instances.each
 
   pub directions_in_range : rules.directions_are_in_range tells ≡ true
-  directions_in_range = all_true Legal _ w.targets (λ i k. between _ _ i.direction k.direction) h.instances.each
+  directions_in_range = all_true Legal _ w.targets (λ i k. between (negsuc 178999999) (pos 180999999) i.direction k.direction) h.instances.each
 
   pub effects_in_range : rules.effects_are_in_range tells ≡ true
   effects_in_range = all_true Legal _ w.targets
-      (λ i k. both_true _ _ (effect_between _ _ (slice_get i.effects (effect_place Brightness)) k.effects.brightness) (effect_between _ _ (slice_get i.effects (effect_place Ghost)) k.effects.ghost)) h.instances.each
+      (λ i k. both_true _ _ (effect_between (negsuc 99999999) (pos 100000000) (slice_get i.effects (effect_place Brightness)) k.effects.brightness) (effect_between (pos 0) (pos 100000000) (slice_get i.effects (effect_place Ghost)) k.effects.ghost)) h.instances.each
 
   pub stage_in_place : rules.stage_is_in_place b tells ≡ true
   stage_in_place = all_true Legal _ w.targets (λ i k. unless_true (is_on_stage i (records_of b)) _ (λ e. as_the_stage i (k.stage e))) h.instances.each

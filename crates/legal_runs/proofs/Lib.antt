@@ -3,3 +3,4 @@ pub mod Tests
 pub mod DeviceRules
 pub mod Counting
 pub mod InstanceRules
+pub mod Stores
