@@ -4,3 +4,4 @@ pub mod DeviceRules
 pub mod Counting
 pub mod InstanceRules
 pub mod Stores
+pub mod Last

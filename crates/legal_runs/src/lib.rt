@@ -3,4 +3,4 @@
 
 mod laws;
 
-pub use laws::{the_first_world_is_reached};
+pub use laws::{the_first_world_is_reached, the_last_world_is_reached};
