@@ -1,13 +1,13 @@
 -- What a run has that can be told: beside what types say, what stands in order and what is in the range of the format.
-use Rattle.std.specs.Prelude.{◌≡◌, ℕ, ◌≤◌, true, false, List, [], ◌∷◌, map, filter, length, unsigned_abs}
+use Rattle.std.specs.Prelude.{◌≡◌, ◌≤◌, true, false, List, map, unsigned_abs}
 use Rattle.std.specs.List.{All}
 use Rattle.script_machine.specs.declared.instance.Instance.{Instance}
 use Rattle.script_machine.specs.declared.threads.Context.{Context}
 use Rattle.script_machine.specs.declared.threads.Context.TheVariants.{Repeat}
-use Rattle.script_machine.specs.declared.threads.Count.TheVariants.{Whole, Infinite}
+use Rattle.script_machine.specs.declared.threads.Count.TheVariants.{Whole}
 use Rattle.script_machine.specs.declared.variables.Store.{Store}
 use Rattle.script_machine.specs.Line.{key_name}
-use Rattle.script_machine.specs.Pending.{Item, Do, Held, Returned, Branch, Again, Back}
+use Rattle.script_machine.specs.Pending.{Item, Held, Again}
 use Rattle.script_machine.specs.ScriptText.{key_of_rest}
 use Rattle.script_machine.specs.Stores.{store_at}
 use Rattle.script_machine.specs.Tasks.{Task}
