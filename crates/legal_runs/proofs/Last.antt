@@ -12,8 +12,8 @@ use Rattle.script_machine.specs.World.{World}
 use Rattle.legal_threads.specs.GoodLines.{IsGoodLine}
 use Rattle.legal_threads.specs.Laws.{NotBack}
 use Rattle.legal_threads.specs.Playable.{IsNamed}
-use Rattle.legal_threads.specs.Scripts.{IsProgram}
 use Rattle.legal_threads.specs.Worlds.{IsLegalWorld}
+use Rattle.legal_threads.proofs.Clocks.{clock_line}
 use Rattle.legal_threads.proofs.KeepingLines.{line_keeps}
 use Rattle.legal_threads.proofs.Lines.{line_legal}
 use Rattle.legal_threads.proofs.RowFits.{goes_is}
@@ -29,9 +29,6 @@ use Rattle.legal_turns.proofs.Frames.{line_runs}
 use Rattle.legal_turns.proofs.Legal.{legal_runs, runs_within}
 use Rattle.saved_rules.specs.Basis.{Basis}
 use Rattle.legal_runs.specs.Reached.{IsGood, IsReached}
-
-clock_line : (p : Program) (l : Line) (w v : World Task) → IsProgram p → IsLegalWorld p w → IsGoodLine w.devices.clock l → after p l w ≡ Goes v → v.devices.clock ≡ clock_after w.devices.clock (Good l)
-clock_line p l w v good legal fits e = ?
 
 not_back : (l : Line) (w : World Task) → IsGoodLine w.devices.clock l → NotBack l w
 not_back (line.Frame b) w h = h.0
