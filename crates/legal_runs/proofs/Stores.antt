@@ -13,7 +13,7 @@ use Rattle.legal_runs.proofs.Tests.{each_both}
 
 -- Rising numbers
 
-abbrev numbers : List Store → List ℕ
+abbrev pub numbers : List Store → List ℕ
 numbers ss = map (λ s. s.of) ss
 
 above_more : (m n : ℕ) (ns : List ℕ) → m < n → RiseAbove n ns → RiseAbove m ns
@@ -58,7 +58,7 @@ found_later : (c : Bool) (s x : Store) (o : Option Store) (d : Store) → c ≡ 
 found_later true s x o d e f = absurd (cc e)
 found_later false s x o d e f = f
 
-abbrev Own : List Store → Store → Type 0
+abbrev pub Own : List Store → Store → Type 0
 Own ss s = store_at s.of ss ≡ s
 
 later_own : (s x : Store) (ss : List Store) → s.of < x.of → Own ss x → Own (s ∷ ss) x
