@@ -1,3 +1,4 @@
+pub mod Files
 pub mod First
 pub mod Tests
 pub mod DeviceRules
@@ -5,3 +6,10 @@ pub mod Counting
 pub mod InstanceRules
 pub mod Stores
 pub mod Last
+pub mod TextRules
+pub mod Digests
+pub mod Told
+pub mod Accepted
+pub mod ThreadRules
+pub mod Rules
+pub mod Texts

@@ -3,4 +3,4 @@
 
 mod laws;
 
-pub use laws::{the_first_world_is_reached, the_last_world_is_reached};
+pub use laws::{every_accepted_file_is_playable, one_text_tells_one_world, the_first_world_is_reached, the_last_world_is_reached, the_text_of_a_run_is_accepted};
