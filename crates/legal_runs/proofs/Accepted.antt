@@ -1,5 +1,5 @@
 -- The text of a run that can be told, and that breaks no rule, is accepted.
-use Rattle.std.proofs.Common.{◌≡◌, ℕ, suc, ◌==◌, ◌≤◌, Bool, true, false, cond, List, [], ◌∷◌, Option, Some, None, option_map, Result, Ok, Err, refl, sym, ap, ◌∙◌, subst, arith}
+use Rattle.std.proofs.Common.{◌≡◌, ℕ, suc, ◌==◌, Bool, true, false, cond, List, [], ◌∷◌, Option, Some, None, option_map, Result, Ok, Err, refl, sym, ap, ◌∙◌, subst}
 use Rattle.std.specs.Prelude.{bytes_eq}
 use Rattle.hex.specs.Hex.{encode_lower}
 use Rattle.serde_json.specs.Data.{Data}
@@ -13,7 +13,7 @@ use Rattle.saved_rules.specs.Basis.{Basis}
 use Rattle.saved_rules.specs.Kept.{thread}
 use Rattle.saved_rules.specs.Legal.{told}
 use Rattle.saved_rules.specs.Levels.{bad_thread}
-use Rattle.saved_rules.specs.Refusals.{first_difference, by_spelling, by_threads, by_rules, by_project, by_shape, by_version, judged, other_version, Reads, IsJudged, IsAccepted}
+use Rattle.saved_rules.specs.Refusals.{first_difference, by_spelling, by_threads, by_rules, by_shape, by_version, judged, other_version, Reads, IsAccepted}
 use Rattle.saved_rules.specs.Rules.{broken}
 use Rattle.saved_rules.specs.RunShapes.{Told, run}
 use Rattle.saved_rules.specs.declared.refusals.SaveRefusal.{SaveRefusal}

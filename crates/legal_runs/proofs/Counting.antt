@@ -1,5 +1,5 @@
 -- Each target has one original, and so clones are few.
-use Rattle.std.proofs.Common.{◌≡◌, ℕ, zero, suc, ◌+◌, ◌<◌, ◌≤◌, ◌==◌, ◌⊎◌, inl, inr, Bool, true, false, not, ◌&&◌, cond, List, [], ◌∷◌, map, length, filter, refl, sym, ap, ◌∙◌, subst, arith}
+use Rattle.std.proofs.Common.{◌≡◌, ℕ, zero, suc, ◌+◌, ◌<◌, ◌≤◌, ◌==◌, inl, inr, Bool, true, false, not, ◌&&◌, cond, List, [], ◌∷◌, map, length, filter, refl, sym, ◌∙◌, subst, arith}
 use Rattle.script_machine.specs.declared.instance.Instance.{Instance}
 use Rattle.legal_threads.specs.Instances.{Hosts}
 use Rattle.legal_threads.specs.Lists.{Member, Differ}

@@ -1,13 +1,11 @@
 -- The rules on the clock, the devices, the counters and the monitors hold of a world that a run can reach.
-use Rattle.std.proofs.Common.{◌≡◌, ℕ, zero, suc, ◌+◌, ◌<◌, ◌≤◌, ◌==◌, Bool, true, false, not, ◌&&◌, ◌||◌, List, [], ◌∷◌, map, length, Option, Some, None, is_some, refl, sym, ap, ◌∙◌, subst, arith}
-use Rattle.std.specs.Prelude.{nat_lt, nat_le, ℤ, unsigned_abs, bytes_eq, int_le, pos}
+use Rattle.std.proofs.Common.{◌≡◌, ℕ, ◌<◌, ◌≤◌, Bool, true, false, not, ◌&&◌, ◌||◌, List, [], ◌∷◌, map, Option, Some, None, is_some, refl, sym, ap, subst, arith}
+use Rattle.std.specs.Prelude.{nat_lt, bytes_eq}
 use Rattle.std.specs.List.{list_any, list_all}
 use Rattle.std.specs.Option.{option_map_or}
 use Rattle.scratch_number.specs.declared.number.Num.{Num}
 use Rattle.scratch_number.specs.declared.number.Num.TheVariants.{Fixed, Inf, NegInf, Nan}
-use Rattle.script_machine.specs.declared.devices.BubbleTimer.{BubbleTimer}
 use Rattle.script_machine.specs.declared.devices.Key.{Key}
-use Rattle.script_machine.specs.declared.devices.Question.{Question}
 use Rattle.script_machine.specs.declared.instance.Instance.{Instance}
 use Rattle.script_machine.specs.declared.variables.Shown.{Shown}
 use Rattle.script_machine.specs.declared.variables.Shown.TheVariants.{Variable, List as Items}

@@ -1,8 +1,7 @@
 -- The first world of a run is one that a run can reach.
-use Rattle.std.proofs.Common.{◌≡◌, ℕ, List, length, arith}
+use Rattle.std.proofs.Common.{ℕ, length, arith}
 use Rattle.std.specs.Prelude.{◌≤◌}
 use Rattle.script_machine.specs.First.{first_world}
-use Rattle.script_machine.specs.Outcome.{last_number}
 use Rattle.script_machine.specs.Program.{Program}
 use Rattle.legal_words.specs.Words.{words_after}
 use Rattle.legal_threads.specs.Playable.{IsPlayable}

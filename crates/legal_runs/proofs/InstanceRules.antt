@@ -1,9 +1,8 @@
 -- The rules on instances hold of a world that a run can reach.
-use Rattle.std.proofs.Common.{◌≡◌, ℕ, zero, suc, ◌+◌, ◌<◌, ◌≤◌, ◌==◌, ◌⊎◌, inl, inr, Bool, true, false, not, ◌&&◌, ◌||◌, List, [], ◌∷◌, map, length, filter, Option, Some, None, refl, sym, ap, ◌∙◌, subst, arith}
+use Rattle.std.proofs.Common.{◌≡◌, ℕ, zero, suc, ◌<◌, ◌≤◌, ◌==◌, ◌⊎◌, inl, inr, true, false, not, ◌&&◌, ◌||◌, List, [], ◌∷◌, map, length, filter, Option, Some, None, refl, sym, subst, arith}
 use Rattle.std.specs.Prelude.{nat_lt, nat_le, ℤ, pos, negsuc, slice_get, unwrap_or, IsSomeAnd}
-use Rattle.std.specs.List.{list_any, list_all, range_with_len}
+use Rattle.std.specs.List.{list_any}
 use Rattle.std.specs.Option.{option_map_or}
-use Rattle.opcode_table.specs.Kinds.{hat_kind}
 use Rattle.scratch_number.specs.declared.number.Num.{Num}
 use Rattle.scratch_number.specs.declared.number.Num.TheVariants.{Fixed, Inf, NegInf, Nan}
 use Rattle.script_machine.specs.declared.effects.Effect.TheVariants.{Brightness, Ghost}
@@ -11,9 +10,7 @@ use Rattle.script_machine.specs.declared.instance.Instance.{Instance}
 use Rattle.script_machine.specs.declared.records.TargetRecord.{TargetRecord}
 use Rattle.script_machine.specs.DataRows.{most_items}
 use Rattle.script_machine.specs.Effects.{effect_place}
-use Rattle.script_machine.specs.Frame.{is_edge_hat}
-use Rattle.script_machine.specs.Program.{Program, Head, hat_block, scripts_at, no_target}
-use Rattle.script_machine.specs.Script.{op_of}
+use Rattle.script_machine.specs.Program.{Head, scripts_at, no_target}
 use Rattle.script_machine.specs.Stores.{is_on_stage}
 use Rattle.script_machine.specs.Tasks.{Task}
 use Rattle.script_machine.specs.World.{World}

@@ -1,5 +1,5 @@
 -- The stores of a world that a run can reach are those that its instances tell, in order; their texts are short.
-use Rattle.std.proofs.Common.{◌≡◌, ℕ, zero, suc, ◌+◌, ◌<◌, ◌≤◌, ◌==◌, ◌⊎◌, inl, inr, Bool, true, false, not, ◌&&◌, cond, List, [], ◌∷◌, map, length, Option, Some, None, refl, sym, ap, ◌∙◌, subst, arith}
+use Rattle.std.proofs.Common.{◌≡◌, ℕ, ◌<◌, ◌≤◌, ◌==◌, ◌⊎◌, inl, inr, Bool, true, false, cond, List, [], ◌∷◌, map, Option, Some, refl, sym, ap, ◌∙◌, subst, arith}
 use Rattle.std.specs.Prelude.{◌↔◌, nat_lt, find, unwrap_or}
 use Rattle.std.proofs.lemmas.Bool.Decides.{nat_tests}
 use Rattle.script_machine.specs.declared.instance.Instance.{Instance}
@@ -9,7 +9,6 @@ use Rattle.legal_threads.specs.Lists.{Each, Member, Differ, RiseAbove, Rise}
 use Rattle.legal_threads.proofs.Numbers.{equal_true, equal_false, each_map}
 use Rattle.saved_rules.specs.RunShapes.{store_among, stores_in_order}
 use Rattle.saved_again.specs.Told.{store_told}
-use Rattle.legal_runs.proofs.Tests.{each_both}
 
 -- Rising numbers
 

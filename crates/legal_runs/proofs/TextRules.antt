@@ -1,5 +1,5 @@
 -- The texts of instances and their variables are short in a world that a run can reach.
-use Rattle.std.proofs.Common.{◌≡◌, ℕ, ◌+◌, ◌<◌, ◌≤◌, ◌⊎◌, inl, inr, Bool, true, false, ◌&&◌, List, [], ◌∷◌, map, refl, sym, ap, ◌∙◌, subst}
+use Rattle.std.proofs.Common.{◌≡◌, ℕ, inl, inr, true, List, [], ◌∷◌, map, refl, ap, ◌∙◌, subst}
 use Rattle.std.specs.Prelude.{nat_le}
 use Rattle.std.specs.Fmt.{char_count}
 use Rattle.std.specs.List.{All, list_all}

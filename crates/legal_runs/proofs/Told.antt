@@ -1,7 +1,5 @@
 -- A world that a run can reach can be told.
-use Rattle.std.proofs.Common.{◌≡◌, ℕ, ◌<◌, ◌≤◌, Bool, true, ◌&&◌, List, [], ◌∷◌, map, Some, refl}
-use Rattle.std.specs.List.{All}
-use Rattle.script_machine.specs.declared.instance.Instance.{Instance}
+use Rattle.std.proofs.Common.{◌≡◌, ℕ, true, List, [], ◌∷◌, map, Some, refl}
 use Rattle.script_machine.specs.declared.threads.Context.{Context}
 use Rattle.script_machine.specs.declared.threads.Context.TheVariants.{Fresh, Repeat, Wait, Glide, Started, Asked, Spoken, Called}
 use Rattle.script_machine.specs.declared.threads.Count.TheVariants.{Whole, Infinite}
@@ -10,8 +8,7 @@ use Rattle.script_machine.specs.Pending.{Item, Do, Held, Returned, Branch, Again
 use Rattle.script_machine.specs.ScriptText.{key_of_rest}
 use Rattle.script_machine.specs.Tasks.{Task}
 use Rattle.script_machine.specs.World.{World}
-use Rattle.legal_threads.specs.GoodLines.{IsNamedKey}
-use Rattle.legal_threads.specs.Lists.{Each, RiseAbove, Rise}
+use Rattle.legal_threads.specs.Lists.{RiseAbove, Rise}
 use Rattle.legal_threads.specs.Worlds.{IsLegalThread}
 use Rattle.legal_threads.proofs.Numbers.{each_map}
 use Rattle.legal_instances.specs.Instances.{IsInstance}
