@@ -4,3 +4,5 @@ pub mod DeviceRules
 pub mod Counting
 pub mod InstanceRules
 pub mod Stores
+pub mod ThreadPlaces
+pub mod ThreadFits
