@@ -6,3 +6,4 @@ pub mod InstanceRules
 pub mod Stores
 pub mod ThreadPlaces
 pub mod ThreadFits
+pub mod ThreadLegal
