@@ -7,3 +7,4 @@ pub mod Stores
 pub mod ThreadPlaces
 pub mod ThreadFits
 pub mod ThreadLegal
+pub mod ThreadRules
