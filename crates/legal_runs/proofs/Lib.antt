@@ -8,3 +8,4 @@ pub mod ThreadPlaces
 pub mod ThreadFits
 pub mod ThreadLegal
 pub mod ThreadRules
+pub mod ThreadsTold

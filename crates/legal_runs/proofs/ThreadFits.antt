@@ -1,24 +1,22 @@
 -- What a legal thread has still to do keeps the rules of saved runs, as tests.
-use Rattle.std.proofs.Common.{◌≡◌, ℕ, ◌<◌, ◌≤◌, ◌==◌, ◌⊎◌, inl, inr, ℤ, pos, negsuc, Bool, true, false, not, ◌&&◌, ◌||◌, cond, List, [], ◌∷◌, map, length, Option, Some, None, refl, sym, ap, ◌∙◌, subst, arith}
-use Rattle.std.specs.Prelude.{nat_le, int_lt, int_le, bytes_eq}
+use Rattle.std.proofs.Common.{◌≡◌, ℕ, ◌<◌, ◌==◌, inl, inr, pos, negsuc, Bool, true, false, not, ◌||◌, cond, List, [], ◌∷◌, map, length, Option, Some, None, refl, sym, ◌∙◌, subst, arith}
+use Rattle.std.specs.Prelude.{int_lt, bytes_eq}
 use Rattle.std.specs.List.{list_any, list_all}
 use Rattle.std.specs.Ordering.{is_lt}
 use Rattle.std.specs.declared.cmp.Ordering.TheVariants.{Less, Equal, Greater}
 use Rattle.opcode_table.specs.declared.kinds.Kind.{Kind}
-use Rattle.opcode_table.specs.declared.kinds.Kind.TheVariants.{Choice, Endless, Counted, Waits, Glides, Starts, Asks, Speaks}
+use Rattle.opcode_table.specs.declared.kinds.Kind.TheVariants.{Endless, Counted}
 use Rattle.opcode_table.specs.Kinds.{kind}
 use Rattle.scratch_number.specs.declared.number.Num.{Num}
 use Rattle.scratch_number.specs.declared.number.Num.TheVariants.{Fixed, Inf, NegInf, Nan}
 use Rattle.scratch_values.specs.Casts.{zero_number}
-use Rattle.script_machine.specs.declared.devices.Question.{Question}
-use Rattle.script_machine.specs.declared.devices.BubbleTimer.{BubbleTimer}
 use Rattle.script_machine.specs.declared.threads.Context.{Context}
 use Rattle.script_machine.specs.declared.threads.Context.TheVariants.{Fresh, Repeat, Wait, Glide, Started, Asked, Spoken, Called}
 use Rattle.script_machine.specs.declared.threads.Count.TheVariants.{Whole, Infinite}
 use Rattle.script_machine.specs.declared.threads.Status.{Status}
 use Rattle.script_machine.specs.declared.threads.Status.TheVariants.{Running, YieldTick, PromiseWait, Done}
 use Rattle.script_machine.specs.Called.{called}
-use Rattle.script_machine.specs.Legal.{Fits, KeepsAgain, Keeps, Stands, Markers, Legal, StatusFits, script_of, distinct, waits_for_promise, waits_for_started}
+use Rattle.script_machine.specs.Legal.{Fits, KeepsAgain, Keeps, Markers, Legal, StatusFits, waits_for_promise}
 use Rattle.script_machine.specs.Pending.{Item, Do, Held, Returned, Branch, Again, Back}
 use Rattle.script_machine.specs.Program.{Program, Procedure}
 use Rattle.script_machine.specs.Script.{Script, op_of}

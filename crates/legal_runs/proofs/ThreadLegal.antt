@@ -1,9 +1,9 @@
 -- The threads of a world that a run can reach are legal threads of saved runs, and their levels stand for what they have
 -- still to do.
-use Rattle.std.proofs.Common.{◌≡◌, ℕ, ◌<◌, ◌==◌, ◌&&◌, inl, inr, Bool, true, false, List, [], ◌∷◌, map, cond, Option, Some, None, option_map, option_and_then, refl, sym, ap, ◌∙◌, subst, arith}
+use Rattle.std.proofs.Common.{◌≡◌, ℕ, ◌<◌, ◌==◌, ◌&&◌, inl, inr, Bool, true, false, List, [], ◌∷◌, map, cond, Some, option_map, option_and_then, refl, sym, ap, ◌∙◌, subst, arith}
 use Rattle.std.specs.Prelude.{find, unwrap_or}
 use Rattle.std.specs.Option.{option_map_or}
-use Rattle.script_machine.specs.Legal.{Legal, warp_on}
+use Rattle.script_machine.specs.Legal.{warp_on}
 use Rattle.script_machine.specs.Pending.{Item, Do, Held, Returned, Branch, Again, Back}
 use Rattle.script_machine.specs.Program.{Program, Head, hat_block, scripts_at}
 use Rattle.script_machine.specs.Script.{Script}
@@ -11,8 +11,7 @@ use Rattle.script_machine.specs.Stores.{no_instance, instance_at}
 use Rattle.script_machine.specs.Tasks.{Task}
 use Rattle.script_machine.specs.World.{World}
 use Rattle.legal_threads.specs.Lists.{RiseAbove, Rise}
-use Rattle.legal_threads.specs.Promises.{askers, speakers}
-use Rattle.legal_threads.specs.Threads.{Holds, IsThread}
+use Rattle.legal_threads.specs.Threads.{Holds}
 use Rattle.legal_threads.specs.Worlds as threads
 use Rattle.legal_threads.proofs.Faces.{hosts_one, found}
 use Rattle.legal_threads.proofs.Numbers.{equal, equal_true}

@@ -7,7 +7,7 @@ use Rattle.opcode_table.specs.Kinds.{kind}
 use Rattle.script_machine.specs.Called.{called, called_by, branch_scripts, scripts_in, scripts_over}
 use Rattle.script_machine.specs.Legal.{EndOf, EndOfOne, Stands, script_of, scripts_on}
 use Rattle.script_machine.specs.Pending.{Item, Do, Held, Returned, Branch, Again, Back}
-use Rattle.script_machine.specs.Program.{Program, Procedure, Head, scripts_at}
+use Rattle.script_machine.specs.Program.{Procedure, Head, scripts_at}
 use Rattle.script_machine.specs.Script.{Script, End, Then, Statement, Does, Branches, NoBranch, AndBranch, place_of, command_of, op_of, branches_of}
 use Rattle.legal_threads.specs.Lists.{Each}
 use Rattle.legal_threads.specs.Scripts.{Within, StatementWithin, BranchesWithin, IsProcedure}

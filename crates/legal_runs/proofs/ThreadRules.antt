@@ -1,8 +1,8 @@
 -- The rules on threads hold of a world that a run can reach.
-use Rattle.std.proofs.Common.{◌≡◌, ℕ, zero, suc, ◌+◌, ◌<◌, ◌≤◌, ◌==◌, ◌&&◌, ◌||◌, inl, inr, Bool, true, false, not, List, [], ◌∷◌, map, length, filter, cond, Option, Some, None, option_map, refl, sym, ap, ◌∙◌, subst, arith}
-use Rattle.std.specs.Prelude.{find, is_some, nat_lt, nat_le}
+use Rattle.std.proofs.Common.{◌≡◌, ℕ, ◌+◌, ◌<◌, ◌≤◌, ◌==◌, inl, inr, Bool, true, false, not, List, [], ◌∷◌, map, length, filter, cond, Option, Some, None, option_map, refl, sym, ap, ◌∙◌, subst, arith}
+use Rattle.std.specs.Prelude.{find, is_some, nat_lt}
 use Rattle.std.specs.List.{All, fold, list_any, list_all}
-use Rattle.std.specs.Option.{option_map_or}
+use Rattle.opcode_table.specs.declared.kinds.Kind.{Kind}
 use Rattle.scratch_values.specs.declared.value.Value.{Value}
 use Rattle.scratch_values.specs.declared.value.Value.TheVariants.{Number, Truth, Text}
 use Rattle.script_machine.specs.declared.threads.Context.{Context}
@@ -10,9 +10,8 @@ use Rattle.script_machine.specs.declared.threads.Context.TheVariants.{Fresh, Rep
 use Rattle.script_machine.specs.Legal.{KeepsAgain, Legal, Markers}
 use Rattle.script_machine.specs.Outcome.{most_levels}
 use Rattle.script_machine.specs.Pending.{Item, Do, Held, Returned, Branch, Again, Back, markers}
-use Rattle.script_machine.specs.Places.{sum_some}
 use Rattle.script_machine.specs.Program.{Program, Head, hat_block, scripts_at}
-use Rattle.script_machine.specs.Script.{Script, Statement, place_of, op_of}
+use Rattle.script_machine.specs.Script.{Script}
 use Rattle.script_machine.specs.declared.instance.Instance.{Instance}
 use Rattle.script_machine.specs.Stores.{instance_at, live}
 use Rattle.script_machine.specs.Tasks.{Task, depth, levels}
@@ -28,8 +27,8 @@ use Rattle.legal_threads.proofs.Numbers.{equal_true, each_map}
 use Rattle.saved_text.specs.Ranges.{IsRun, IsTask, AreItems, IsMarker, IsParam, IsValue}
 use Rattle.saved_text.specs.Saved.{snapshot}
 use Rattle.saved_text.specs.Tasks.{is_marker}
-use Rattle.saved_rules.specs.Basis.{Basis, blocks_of, is_hat}
-use Rattle.saved_rules.specs.Kept.{SavedLevel, SavedThread, kept_of, level_at, level_of, levels_of, thread_told}
+use Rattle.saved_rules.specs.Basis.{Basis, blocks_of}
+use Rattle.saved_rules.specs.Kept.{SavedLevel, SavedThread, kept_of, level_of, levels_of, thread_told}
 use Rattle.saved_rules.specs.Legal.{AllStand, StandsIn, told}
 use Rattle.saved_rules.specs.Levels.{thread_is_well, bad_thread}
 use Rattle.saved_rules.specs.Rules as rules
@@ -108,7 +107,7 @@ module _ (next : ℕ) where
   kept_there Called h = refl
 
   -- a loop has started none
-  again_there : (c : Context) (k : _) → KeepsAgain k c → KeptWell next c
+  again_there : (c : Context) (k : Kind) → KeepsAgain k c → KeptWell next c
   again_there Fresh k h = tt
   again_there (Repeat n) k h = tt
   again_there (Wait c) k h = absurd h
@@ -234,10 +233,10 @@ module _ (b : Basis) (seed : ℕ) (digest : List ℕ) (w : World Task) (good : I
   threads_of_hats = both_true (list_all (rules.is_of_hat b (told (snapshot digest seed w))) (map thread_told w.threads.list)) _
       (all_map_true (λ x. threads.IsLegalThread b.program w x × (x.serial < w.next_thread)) thread_told (rules.is_of_hat b (told (snapshot digest seed w))) w.threads.list
       (λ x k.
-        let f = found x.of k.0.thread.target w.targets k.0.thread.hosted in
-        both_true (rules.is_named (told (snapshot digest seed w)) x.of x.serial) _
-        (both_true (is_some (live x.of w.targets)) (nat_lt x.serial w.next_thread) (live_some (live x.of w.targets) f.x f.is_it) (less_true x.serial w.next_thread k.1))
-        (hat_is b.program x.hat k.0.thread.target (instance_at x.of w.targets).of k.0.thread.head (target_is b seed digest w good reached x k.0) k.0.thread.hat k.0.thread.heads))
+      let f = found x.of k.0.thread.target w.targets k.0.thread.hosted in
+      both_true (rules.is_named (told (snapshot digest seed w)) x.of x.serial) _
+      (both_true (is_some (live x.of w.targets)) (nat_lt x.serial w.next_thread) (live_some (live x.of w.targets) f.x f.is_it) (less_true x.serial w.next_thread k.1))
+      (hat_is b.program x.hat k.0.thread.target (instance_at x.of w.targets).of k.0.thread.head (target_is b seed digest w good reached x k.0) k.0.thread.hat k.0.thread.heads))
       (each_both (threads.IsLegalThread b.program w) (λ x. x.serial < w.next_thread) w.threads.list reached.threads.threads
       (each_number (λ n. n < w.next_thread) w.threads.list reached.threads.serials.given)))
       (subst (λ ns. rules.differ ns ≡ true) (sym (same_serials w.threads.list)) (differ_true (map (λ x. x.serial) w.threads.list) reached.threads.serials.differ))
@@ -255,9 +254,9 @@ module _ (b : Basis) (seed : ℕ) (digest : List ℕ) (w : World Task) (good : I
   pub levels_few : rules.levels_are_few (told (snapshot digest seed w)) ≡ true
   levels_few =
       let counted : Each (λ t. length (levels_of t.items) ≡ depth t) w.threads.list =
-          each_map (threads.IsLegalThread b.program w) _ w.threads.list
-          (λ x k. levels_count b.program k.thread.head.script x.items x.warp (stands b seed digest w good reached x k) ∙ sym (depth_by (is_done x.status) (markers x.items + 1) k.alive))
-          reached.threads.threads in
+      each_map (threads.IsLegalThread b.program w) _ w.threads.list
+      (λ x k. levels_count b.program k.thread.head.script x.items x.warp (stands b seed digest w good reached x k) ∙ sym (depth_by (is_done x.status) (markers x.items + 1) k.alive))
+      reached.threads.threads in
       let told_levels = fold_levels 0 w.threads.list counted in
       let all = levels_are w.threads in
       let few : levels w ≤ most_levels = reached.threads.few in

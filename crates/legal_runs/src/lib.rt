@@ -2,5 +2,7 @@
 #![tactic(auto)]
 
 mod laws;
+mod worlds;
 
-pub use laws::{the_first_world_is_reached};
+pub use laws::the_first_world_is_reached;
+pub use worlds::the_world_of_a_run_is_told;
