@@ -5,11 +5,15 @@ pub mod DeviceRules
 pub mod Counting
 pub mod InstanceRules
 pub mod Stores
+pub mod ThreadPlaces
+pub mod ThreadFits
+pub mod ThreadLegal
+pub mod ThreadRules
+pub mod ThreadsTold
 pub mod Last
 pub mod TextRules
 pub mod Digests
 pub mod Told
 pub mod Accepted
-pub mod ThreadRules
 pub mod Rules
 pub mod Texts
