@@ -1,5 +1,5 @@
 -- The world that a saved run tells: what the run was when it was saved.
-use Rattle.std.specs.Prelude.{ℕ, List, [], map, Bool, false, None, unwrap_or}
+use Rattle.std.specs.Prelude.{List, [], map, Bool, false, None, unwrap_or}
 use Rattle.std.specs.Option.{option_map_or}
 use Rattle.script_machine.specs.Legal.{warp_on}
 use Rattle.script_machine.specs.Pending.{Item}

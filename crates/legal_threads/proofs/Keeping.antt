@@ -41,6 +41,40 @@ module _ (p : Program) (P : ℕ → Statement → Type 0) (Q : World Task → Ty
     pub head : Holds x.head (scripts_at target p).heads
     pub edge : is_edge_hat (hat_kind (op_of x.head.hat)) ≡ true
 
+  -- what keeps Q while the clock stands
+  pub record KeepsAtClock : Type 0 where
+    -- threads and redraw requests come and go, and threads take numbers
+    pub threads : (w : World Task) (ts : Places Task) → Q w → Q (record w { threads = ts })
+    pub redraw : (w : World Task) (b : Bool) → Q w → Q (record w { redraw = b })
+    pub given : (w : World Task) → (w.next_thread ≡ last_number → ⊥) → Q w → Q (record w { next_thread = w.next_thread + 1 })
+    -- an execution: its inputs draw words, its row changes what its group may change
+    pub evaluates : (w : World Task) (v : View) (inputs : Expressions) → Q w → IfGoes (values v inputs w.words) (λ d. Q (record w { words = d.words }))
+    pub rows : (w : World Task) (t : Task) (s : Statement) (c : Context) (a : Arguments) (x : Applied) → Stands w t s → a.variables ≡ (command_of s).refs → Q w
+        → row p (command_of s) a t.of t.serial c w ≡ Goes x → Applies p t.of t.serial (command_of s) w x → Q x.world
+    -- what controls do beside
+    pub drops : (w : World Task) (n : ℕ) → Q w → IfGoes (questions_dropped n (scene_of w)) (λ s. Q (with_scene w s))
+    pub stops : (w : World Task) → Inhabited p.records w.next_instance w.targets → Q w → Q (all_stopped p.records w)
+    pub disposes : (w : World Task) (n : ℕ) → Inhabited p.records w.next_instance w.targets → is_clone p.records n ≡ true → Q w → Q (disposed n w)
+    pub untimed : (w : World Task) (n : ℕ) → Q w → Q (with_scene w (without_timers n (scene_of w)))
+    pub clones : (w : World Task) (original target : ℕ) → Inhabited p.records w.next_instance w.targets → Hosts original target w.targets
+        → has_no_room p.records original w ≡ false → (w.next_instance ≡ last_number → ⊥) → Q w
+        → Q (record (clone_added original w) { targets = placed_behind w.next_instance original (clone_added original w).targets })
+    -- a frame: due timers, edge hats, its number
+    pub timer_gone : (w : World Task) (k : ℕ) → Q w → Q (without_timer k w)
+    pub emptied : (w : World Task) (n : ℕ) → Q w → IfGoes (bubble_emptied n (scene_of w)) (λ s. Q (with_scene w s))
+    pub noted : (w : World Task) (x : Pair) (v : Bool) → IsEdge w x → Inhabited p.records w.next_instance w.targets → Q w → Q (edge_noted x v w)
+    pub counted : (w : World Task) → (w.frame ≡ last_number → ⊥) → Q w → Q (record w { frame = w.frame + 1 })
+    -- other lines
+    pub renews : (w : World Task) → Q w → Q (renewed w)
+    pub key_held : (w : World Task) (k : Key) → IsNamedKey k → Q w → Q (with_keys (with_key k) w)
+    pub key_free : (w : World Task) (k : Key) → Q w → Q (with_keys (without_key k) w)
+    pub mouse : (w : World Task) (x y : ℤ) → unsigned_abs x ≤ 240 → unsigned_abs y ≤ 180 → Q w → Q (record w { devices = record w.devices { mouse_x = x; mouse_y = y } })
+    pub button : (w : World Task) (down : Bool) → Q w → Q (record w { devices = record w.devices { button = down } })
+    pub turbo : (w : World Task) (on : Bool) → Q w → Q (record w { devices = record w.devices { turbo = on } })
+    pub answer : (w : World Task) (text : List ℕ) → length text ≤ longest → Q w → Q (with_answer text w)
+    pub answers : (w : World Task) (q : Question) (qs : List Question) → w.devices.questions ≡ q ∷ qs → Q w
+        → IfGoes (first_taken q.bubble q.of (record (scene_of w) { devices = record w.devices { questions = qs } })) (λ s. Q (with_scene w s))
+
   pub record Keeps : Type 0 where
     -- threads and redraw requests come and go, and threads take numbers
     pub threads : (w : World Task) (ts : Places Task) → Q w → Q (record w { threads = ts })
@@ -74,3 +108,29 @@ module _ (p : Program) (P : ℕ → Statement → Type 0) (Q : World Task → Ty
     pub answer : (w : World Task) (text : List ℕ) → length text ≤ longest → Q w → Q (with_answer text w)
     pub answers : (w : World Task) (q : Question) (qs : List Question) → w.devices.questions ≡ q ∷ qs → Q w
         → IfGoes (first_taken q.bubble q.of (record (scene_of w) { devices = record w.devices { questions = qs } })) (λ s. Q (with_scene w s))
+
+  pub while_clock_stands : Keeps → KeepsAtClock
+  while_clock_stands k = record {
+    threads = k.threads;
+    redraw = k.redraw;
+    given = k.given;
+    evaluates = k.evaluates;
+    rows = k.rows;
+    drops = k.drops;
+    stops = k.stops;
+    disposes = k.disposes;
+    untimed = k.untimed;
+    clones = k.clones;
+    timer_gone = k.timer_gone;
+    emptied = k.emptied;
+    noted = k.noted;
+    counted = k.counted;
+    renews = k.renews;
+    key_held = k.key_held;
+    key_free = k.key_free;
+    mouse = k.mouse;
+    button = k.button;
+    turbo = k.turbo;
+    answer = k.answer;
+    answers = k.answers;
+  }

@@ -22,7 +22,6 @@ use Rattle.script_machine.specs.World.{World}
 use Rattle.script_machine.specs.Step.{Moment, step}
 use Rattle.script_machine.specs.Slice.{go_on, is_late, counted_after, slice_goes_on, slice_by, executing, most_executions, turn_of, turn_by, turn, woken, without_detached, Passed, visit, next_place, pass_on, pass, most_slices, without_done}
 use Rattle.script_machine.specs.Frame.{Found, next_due, without_timer, still_fits, timer_ended, end_due, timers_ended, is_edge_hat, edges, edge_value, recorded, edges_of, edge_noted, edge_fired, edge_view, edge_one, edges_passed, passes_go_on, passes, at_clock, numbered, frame}
-use Rattle.legal_threads.specs.GoodLines.{last_clock}
 use Rattle.legal_threads.specs.Lists.{Each}
 use Rattle.legal_threads.specs.Scripts.{IsProgram}
 use Rattle.legal_threads.specs.Statements.{Everywhere}
@@ -35,7 +34,7 @@ use Rattle.legal_threads.proofs.Slices.{MayRun, step_after, further, turn_moving
 use Rattle.legal_threads.proofs.Passes.{Paused, Visited, place_visited, woken_moving, undetached, legal_without_done, paused_legal}
 use Rattle.legal_threads.proofs.Timers.{timers_legal}
 use Rattle.legal_threads.proofs.Framing.{legal_again, SameFaces, pair_on, one_legal, edges_fit}
-use Rattle.legal_threads.proofs.Keeping.{IsEdge, Keeps}
+use Rattle.legal_threads.proofs.Keeping.{IsEdge, KeepsAtClock}
 use Rattle.legal_threads.proofs.KeepingStarts.{goes_both, number_known, pairs_keep}
 use Rattle.legal_threads.proofs.KeepingSteps.{moved_keeps, step_keeps}
 
@@ -62,7 +61,7 @@ each_both : {A : Type 0} (P Q : A → Type 0) (xs : List A) → Each P xs → Ea
 each_both P Q [] g h = tt
 each_both P Q (x ∷ xs) g h = ((g.0, h.0), each_both P Q xs g.1 h.1)
 
-module _ (p : Program) (P : ℕ → Statement → Type 0) (Q : World Task → Type 0) (keeps : Keeps p P Q) where
+module _ (p : Program) (P : ℕ → Statement → Type 0) (Q : World Task → Type 0) (keeps : KeepsAtClock p P Q) where
   -- Timers
 
   emptied_by : (b : Bool) (n : ℕ) (w : World Task) → Q w → IfGoes (if b then bubble_emptied n (scene_of w) else Goes (scene_of w)) (λ s. Q (with_scene w s))
@@ -192,13 +191,13 @@ module _ (p : Program) (P : ℕ → Statement → Type 0) (Q : World Task → Ty
 
     -- The frame
 
-    pub frame_keeps : (b : Budget) (w : World Task) → w.devices.clock ≤ b.clock → b.clock ≤ last_clock → IsLegalWorld p w → Q w → IfGoes (frame p b w) Q
-    frame_keeps b w le most l h =
+    pub frame_keeps : (b : Budget) (w : World Task) → w.devices.clock ≤ b.clock → IsLegalWorld p w → Q (at_clock b.clock w) → IfGoes (frame p b w) Q
+    frame_keeps b w le l h =
         let w1 = at_clock b.clock w in
         goes_then (timers_ended (length w.devices.timers) w1) _ Passes Q
         (goes_both (timers_ended (length w.devices.timers) w1) (IsLegalWorld p) Q
         (timers_legal p (length w.devices.timers) w1 (legal_again p w w.frame w.words w.redraw w.variables w1.devices le refl refl (λ k. k) (λ k. k) l))
-        (timers_keep (length w.devices.timers) w1 (keeps.clock w b.clock le most h)))
+        (timers_keep (length w.devices.timers) w1 h))
         (λ x g. goes_then (edges_passed p (edges p x) x) _ Passes Q (edges_keep (edges p x) x (edges_fit p x) (edges_tested x) g.0 g.1)
         (λ y k. goes_then (passes p b.warp b.passes true true (record y { redraw = false })) numbered Q Q
         (passes_keep b.warp b.passes true true (record y { redraw = false }) (legal_again p y y.frame y.words false y.variables y.devices (omega arith) refl refl (λ q. q) (λ q. q) k.0, keeps.redraw y false k.1))

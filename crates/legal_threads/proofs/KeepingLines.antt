@@ -14,17 +14,23 @@ use Rattle.script_machine.specs.Script.{Statement}
 use Rattle.script_machine.specs.Stopping.{scene_of, with_scene, first_taken, all_stopped}
 use Rattle.script_machine.specs.Tasks.{Task, begin}
 use Rattle.script_machine.specs.World.{World}
+use Rattle.script_machine.specs.Frame.{at_clock}
 use Rattle.script_machine.specs.Line.{started, key_name, key_down, reset, clicked, with_answer, answered, after}
 use Rattle.legal_threads.specs.GoodLines.{IsNamedKey, IsGoodLine}
 use Rattle.legal_threads.specs.Scripts.{IsProgram}
 use Rattle.legal_threads.specs.Statements.{Everywhere}
 use Rattle.legal_threads.specs.Worlds.{IsLegalWorld}
 use Rattle.legal_threads.proofs.RowFits.{goes_then}
-use Rattle.legal_threads.proofs.Keeping.{Keeps}
+use Rattle.legal_threads.proofs.Keeping.{KeepsAtClock, Keeps, while_clock_stands}
 use Rattle.legal_threads.proofs.KeepingStarts.{begin_keeps}
 use Rattle.legal_threads.proofs.KeepingFrames.{resumed_keeps, frame_keeps}
 
-module _ (p : Program) (P : ℕ → Statement → Type 0) (Q : World Task → Type 0) (keeps : Keeps p P Q) where
+-- the world whose clock is set, where the line does
+abbrev pub timed : Line → World Task → World Task
+timed (line.Frame b) w = at_clock b.clock w
+timed _ w = w
+
+module _ (p : Program) (P : ℕ → Statement → Type 0) (Q : World Task → Type 0) (keeps : KeepsAtClock p P Q) where
   started_keeps : (f : Filter) (w : World Task) → Q w → IfGoes (started p f w) Q
   started_keeps f w h = goes_then (begin p None f w) _ (λ b. Q b.world) Q (begin_keeps p P Q keeps None f w h) (λ b g. g)
 
@@ -41,7 +47,7 @@ module _ (p : Program) (P : ℕ → Statement → Type 0) (Q : World Task → Ty
   answered_keeps (q ∷ qs) w e h = goes_then (first_taken q.bubble q.of (record (scene_of w) { devices = record w.devices { questions = qs } })) _ (λ s. Q (with_scene w s)) Q
       (keeps.answers w q qs e h) (λ s g. resumed_keeps p P Q keeps q.thread (with_scene w s) g)
 
-  each_line_keeps : IsProgram p → Everywhere P p → (l : Line) (w : World Task) → IsGoodLine w.devices.clock l → IsLegalWorld p w → Q w → IfGoes (after p l w) Q
+  pub each_line_keeps : IsProgram p → Everywhere P p → (l : Line) (w : World Task) → IsGoodLine w.devices.clock l → IsLegalWorld p w → Q (timed l w) → IfGoes (after p l w) Q
   each_line_keeps good every line.Nothing w b l h = h
   each_line_keeps good every line.Flag w b l h = started_keeps Flag (reset p.records w) (keeps.renews (all_stopped p.records w) (keeps.stops w l.sound.inhabited h))
   each_line_keeps good every line.Stop w b l h = keeps.stops w l.sound.inhabited h
@@ -52,8 +58,12 @@ module _ (p : Program) (P : ℕ → Statement → Type 0) (Q : World Task → Ty
   each_line_keeps good every (line.Click place) w b l h = clicked_keeps (slice_get w.targets place) w h
   each_line_keeps good every (line.Answer text) w b l h = answered_keeps w.devices.questions (with_answer text w) refl (keeps.answer w text b h)
   each_line_keeps good every (line.Turbo on) w b l h = keeps.turbo w on h
-  each_line_keeps good every (line.Frame budget) w b l h = frame_keeps p P Q keeps good every budget w b.0 b.1 l h
+  each_line_keeps good every (line.Frame budget) w b l h = frame_keeps p P Q keeps good every budget w b.0 l h
+
+timed_keeps : (p : Program) (P : ℕ → Statement → Type 0) (Q : World Task → Type 0) → Keeps p P Q → (l : Line) (w : World Task) → IsGoodLine w.devices.clock l → Q w → Q (timed l w)
+timed_keeps p P Q keeps (line.Frame budget) w b h = keeps.clock w budget.clock b.0 b.1 h
+timed_keeps p P Q keeps _ w b h = h
 
 pub line_keeps : (p : Program) (P : ℕ → Statement → Type 0) (Q : World Task → Type 0) → IsProgram p → Everywhere P p → Keeps p P Q
     → (l : Line) (w : World Task) → IsGoodLine w.devices.clock l → IsLegalWorld p w → Q w → IfGoes (after p l w) Q
-line_keeps p P Q good everywhere keeps l w b legal h = each_line_keeps p P Q keeps good everywhere l w b legal h
+line_keeps p P Q good everywhere keeps l w b legal h = each_line_keeps p P Q (while_clock_stands p P Q keeps) good everywhere l w b legal (timed_keeps p P Q keeps l w b h)

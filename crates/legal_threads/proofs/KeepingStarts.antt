@@ -15,7 +15,7 @@ use Rattle.script_machine.specs.Tasks.{Task, tasks, begin_pairs, begin}
 use Rattle.script_machine.specs.World.{World}
 use Rattle.legal_threads.proofs.Numbers.{equal_true, clash}
 use Rattle.legal_threads.proofs.RowFits.{goes_then, goes_any}
-use Rattle.legal_threads.proofs.Keeping.{Keeps}
+use Rattle.legal_threads.proofs.Keeping.{KeepsAtClock}
 
 -- two facts of one answer
 pub goes_both : {A : Type 0} (o : Outcome A) (P Q : A → Type 0) → IfGoes o P → IfGoes o Q → IfGoes o (λ x. P x × Q x)
@@ -39,7 +39,7 @@ number_by false which o P h = h refl
 pub number_known : {A : Type 0} (which : CounterKind) (next : ℕ) (o : Outcome A) (P : A → Type 0) → ((next ≡ last_number → ⊥) → IfGoes o P) → IfGoes (with_number which next o) P
 number_known which next o P h = number_by (next == last_number) which o P (λ e. h (λ same. clash (next == last_number) (equal_true next last_number same) e))
 
-module _ (p : Program) (P : ℕ → Statement → Type 0) (Q : World Task → Type 0) (keeps : Keeps p P Q) where
+module _ (p : Program) (P : ℕ → Statement → Type 0) (Q : World Task → Type 0) (keeps : KeepsAtClock p P Q) where
   -- the world with the threads and the next number of a crowd
   abbrev pub OfCrowd : World Task → Crowd Task → Type 0
   OfCrowd w c = Q (record w { threads = c.threads; next_thread = c.next })

@@ -41,7 +41,7 @@ use Rattle.legal_threads.proofs.Starts.{room_goes}
 use Rattle.legal_threads.proofs.Acted.{Acts}
 use Rattle.legal_threads.proofs.Executed.{Ready, within, acts, with_words, row_applies}
 use Rattle.legal_threads.proofs.Slices.{MayRun, brings_kept, fits_calls, one_of_all, ready}
-use Rattle.legal_threads.proofs.Keeping.{Stands, Keeps}
+use Rattle.legal_threads.proofs.Keeping.{Stands, KeepsAtClock}
 use Rattle.legal_threads.proofs.KeepingStarts.{goes_known, number_known, OfCrowd, all_keep, begin_keeps}
 
 -- A fact of each statement of a script
@@ -107,7 +107,7 @@ module _ (p : Program) (P : ℕ → Statement → Type 0) (good : IsProgram p) (
 
 -- Controls
 
-module _ (p : Program) (P : ℕ → Statement → Type 0) (Q : World Task → Type 0) (keeps : Keeps p P Q) where
+module _ (p : Program) (P : ℕ → Statement → Type 0) (Q : World Task → Type 0) (keeps : KeepsAtClock p P Q) where
   abbrev pub At : Moment (World Task) → Type 0
   At m = Q m.world
 

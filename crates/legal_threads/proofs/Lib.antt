@@ -35,3 +35,4 @@ pub mod KeepingStarts
 pub mod KeepingSteps
 pub mod KeepingFrames
 pub mod KeepingLines
+pub mod Clocks
