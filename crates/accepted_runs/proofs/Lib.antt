@@ -1,3 +1,5 @@
 pub mod Readings
 pub mod Shaped
 pub mod Accepting
+pub mod Tests
+pub mod Desk

@@ -1,0 +1,84 @@
+-- What tests of lists and of numbers tell.
+use Rattle.std.proofs.Common.{◌≡◌, ◌⊎◌, inl, inr, ℕ, ◌+◌, ◌<◌, ◌≤◌, ◌==◌, ◌&&◌, ◌||◌, Bool, true, false, not, nat_lt, nat_le, List, [], ◌∷◌, map, Option, Some, None, find, refl, sym, ap, ◌∙◌, subst, if◌then◌else◌, arith}
+use Rattle.std.specs.List.{list_all, list_any}
+use Rattle.std.proofs.lemmas.Bool.Decides.{Decides-eqb, nat_tests}
+use Rattle.legal_threads.specs.Lists.{Each, Member, Differ}
+use Rattle.saved_rules.specs.Rules.{differ}
+use Rattle.legal_threads.proofs.Numbers.{equal_true, clash}
+
+pub both : (a b : Bool) → (a && b) ≡ true → (a ≡ true) × (b ≡ true)
+both true b h = (refl, h)
+both false b h = absurd (cc h)
+
+pub either : (a b : Bool) → (a || b) ≡ true → (a ≡ true) ⊎ (b ≡ true)
+either true b h = inl refl
+either false b h = inr h
+
+pub not_true : (a : Bool) → not a ≡ true → a ≡ false
+not_true true h = absurd (cc h)
+not_true false h = refl
+
+pub below : (a b : ℕ) → nat_lt a b ≡ true → a < b
+below a b h = grind (arith, nat_tests, h)
+
+pub up_to : (a b : ℕ) → nat_le a b ≡ true → a ≤ b
+up_to a b h = grind (arith, nat_tests, h)
+
+pub equal : (a b : ℕ) → (a == b) ≡ true → a ≡ b
+equal a b h = (Decides-eqb a b).0 h
+
+-- each element passes
+pub all_each : {A : Type 0} (test : A → Bool) (xs : List A) → list_all test xs ≡ true → Each (λ x. test x ≡ true) xs
+all_each test [] h = tt
+all_each test (x ∷ xs) h = let p = both (test x) (list_all test xs) h in (p.0, all_each test xs p.1)
+
+-- and so has a fact
+pub all_have : {A : Type 0} (test : A → Bool) (P : A → Type 0) (xs : List A) → ((x : A) → test x ≡ true → P x) → list_all test xs ≡ true → Each P xs
+all_have test P [] f h = tt
+all_have test P (x ∷ xs) f h = let p = both (test x) (list_all test xs) h in (f x p.0, all_have test P xs f p.1)
+
+pub each_two : {A : Type 0} (P Q R : A → Type 0) (xs : List A) → ((x : A) → P x → Q x → R x) → Each P xs → Each Q xs → Each R xs
+each_two P Q R [] f p q = tt
+each_two P Q R (x ∷ xs) f p q = (f x p.0 q.0, each_two P Q R xs f p.1 q.1)
+
+-- a fact of the elements of a list that was mapped
+pub each_mapped : {A B : Type 0} (g : A → B) (P : B → Type 0) (xs : List A) → Each (λ x. P (g x)) xs → Each P (map g xs)
+each_mapped g P [] all = tt
+each_mapped g P (x ∷ xs) all = (all.0, each_mapped g P xs all.1)
+
+none_named : (n : ℕ) (ns : List ℕ) → list_any (λ m. m == n) ns ≡ false → Member n ns → ⊥
+none_named n [] h m = m
+none_named n (k ∷ ns) h (inl e) = clash (k == n) (equal_true k n e) (first (k == n) (list_any (λ m. m == n) ns) h)
+  where
+    first : (a b : Bool) → (a || b) ≡ false → a ≡ false
+    first true b e = absurd (cc e)
+    first false b e = refl
+none_named n (k ∷ ns) h (inr m) = none_named n ns (second (k == n) (list_any (λ m. m == n) ns) h) m
+  where
+    second : (a b : Bool) → (a || b) ≡ false → b ≡ false
+    second true b e = absurd (cc e)
+    second false b e = e
+
+pub numbers_differ : (ns : List ℕ) → differ ns ≡ true → Differ ns
+numbers_differ [] h = tt
+numbers_differ (n ∷ ns) h =
+    let p = both (not (list_any (λ m. m == n) ns)) (differ ns) h in
+    (none_named n ns (not_true (list_any (λ m. m == n) ns) p.0), numbers_differ ns p.1)
+
+-- what was found passes, and is there
+find_by : {A : Type 0} (test : A → Bool) (c : Bool) (x y : A) (o : Option A) → test x ≡ c → (o ≡ Some y → test y ≡ true) → (if c then Some x else o) ≡ Some y → test y ≡ true
+find_by test true x y o e rest h = let same : x ≡ y = cc in subst (λ z. test z ≡ true) same e
+find_by test false x y o e rest h = rest h
+
+pub find_passes : {A : Type 0} (test : A → Bool) (xs : List A) (y : A) → find test xs ≡ Some y → test y ≡ true
+find_passes test [] y h = absurd (cc h)
+find_passes test (x ∷ xs) y h = find_by test (test x) x y (find test xs) refl (find_passes test xs y) h
+
+pub all_three : (a b c : Bool) → (a && b && c) ≡ true → (a ≡ true) × (b ≡ true) × (c ≡ true)
+all_three a b c h = let p = both (a && b) c h in let q = both a b p.0 in (q.0, q.1, p.1)
+
+pub all_four : (a b c d : Bool) → (a && b && c && d) ≡ true → (a ≡ true) × (b ≡ true) × (c ≡ true) × (d ≡ true)
+all_four a b c d h = let p = both (a && b && c) d h in let q = all_three a b c p.0 in (q.0, q.1, q.2, p.1)
+
+pub all_five : (a b c d e : Bool) → (a && b && c && d && e) ≡ true → (a ≡ true) × (b ≡ true) × (c ≡ true) × (d ≡ true) × (e ≡ true)
+all_five a b c d e h = let p = both (a && b && c && d) e h in let q = all_four a b c d p.0 in (q.0, q.1, q.2, q.3, p.1)
