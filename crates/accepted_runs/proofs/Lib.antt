@@ -3,3 +3,4 @@ pub mod Shaped
 pub mod Accepting
 pub mod Tests
 pub mod Desk
+pub mod Stored
