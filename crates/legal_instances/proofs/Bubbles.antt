@@ -4,7 +4,7 @@ use Rattle.script_words.specs.declared.stops.CounterKind.TheVariants as counter
 use Rattle.script_machine.specs.declared.bubble.Say.{Say}
 use Rattle.script_machine.specs.declared.bubble.Say.TheVariants as say
 use Rattle.script_machine.specs.declared.devices.Question.{Question}
-use Rattle.script_machine.specs.BubbleText.{cut}
+use Rattle.script_machine.specs.BubbleText.{cut, IsShort}
 use Rattle.script_machine.specs.ControlRows.{question_shown}
 use Rattle.script_machine.specs.Outcome.{Goes, IfGoes, with_number}
 use Rattle.script_machine.specs.Parts.{Scene, bubble_set, bubble_updated}
@@ -14,28 +14,28 @@ use Rattle.script_machine.specs.Stores.{live, instance_at}
 use Rattle.legal_threads.proofs.Calm.{number_goes}
 use Rattle.legal_threads.proofs.RowFits.{goes_then}
 use Rattle.legal_instances.proofs.Casts.{IsCast, cast_later, cast_changed}
-use Rattle.legal_instances.proofs.Looks.{said}
+use Rattle.legal_instances.proofs.Looks.{said, none_short, cut_short}
 
 module _ (p : Program) where
   -- the instances of a scene
   abbrev pub IsSceneCast : Scene → Type 0
   IsSceneCast s = IsCast p s.devices.usage s.targets
 
-  pub set_cast : (n : ℕ) (kind : Say) (text : List ℕ) (s : Scene) → IsSceneCast s → IsSceneCast (bubble_set n kind text s)
-  set_cast n kind text s h =
+  pub set_cast : (n : ℕ) (kind : Say) (text : List ℕ) (s : Scene) → IsShort text → IsSceneCast s → IsSceneCast (bubble_set n kind text s)
+  set_cast n kind text s short h =
       cast_changed p (s.devices.usage + 1) n (λ i. record i { bubble = record { kind = kind; text = text; usage = s.devices.usage } }) s.targets (λ i. record { number = refl; of = refl })
-      (λ i e g. said p (s.devices.usage + 1) i g (record { kind = kind; text = text; usage = s.devices.usage }) (omega arith))
+      (λ i e g. said p (s.devices.usage + 1) i g (record { kind = kind; text = text; usage = s.devices.usage }) (omega arith) short)
       (cast_later p s.devices.usage (s.devices.usage + 1) s.targets (omega arith) h)
 
-  updated_by : (c : Bool) (n : ℕ) (kind : Say) (text : List ℕ) (s : Scene) → IsSceneCast s → IfGoes (if c then with_number counter.Bubble s.devices.usage (Goes (bubble_set n kind text s)) else Goes s) IsSceneCast
-  updated_by true n kind text s h = number_goes counter.Bubble s.devices.usage (Goes (bubble_set n kind text s)) IsSceneCast (set_cast n kind text s h)
-  updated_by false n kind text s h = h
+  updated_by : (c : Bool) (n : ℕ) (kind : Say) (text : List ℕ) (s : Scene) → IsShort text → IsSceneCast s → IfGoes (if c then with_number counter.Bubble s.devices.usage (Goes (bubble_set n kind text s)) else Goes s) IsSceneCast
+  updated_by true n kind text s short h = number_goes counter.Bubble s.devices.usage (Goes (bubble_set n kind text s)) IsSceneCast (set_cast n kind text s short h)
+  updated_by false n kind text s short h = h
 
-  pub updated_cast : (n : ℕ) (kind : Say) (text : List ℕ) (s : Scene) → IsSceneCast s → IfGoes (bubble_updated n kind text s) IsSceneCast
-  updated_cast n kind text s h = updated_by (is_some (live n s.targets)) n kind text s h
+  pub updated_cast : (n : ℕ) (kind : Say) (text : List ℕ) (s : Scene) → IsShort text → IsSceneCast s → IfGoes (bubble_updated n kind text s) IsSceneCast
+  updated_cast n kind text s short h = updated_by (is_some (live n s.targets)) n kind text s short h
 
   shown_by : (c : Bool) (q : Question) (s : Scene) → IsSceneCast s → IfGoes (if c then bubble_updated q.of say.Say (cut q.text) s else Goes s) IsSceneCast
-  shown_by true q s h = updated_cast q.of say.Say (cut q.text) s h
+  shown_by true q s h = updated_cast q.of say.Say (cut q.text) s (cut_short q.text) h
   shown_by false q s h = h
 
   pub shown_cast : (qs : List Question) (s : Scene) → IsSceneCast s → IfGoes (question_shown qs s) IsSceneCast
@@ -43,7 +43,7 @@ module _ (p : Program) where
   shown_cast (q ∷ qs) s h = shown_by q.bubble q s h
 
   pub emptied_cast : (n : ℕ) (s : Scene) → IsSceneCast s → IfGoes (bubble_emptied n s) IsSceneCast
-  emptied_cast n s h = updated_cast n (instance_at n s.targets).bubble.kind [] s h
+  emptied_cast n s h = updated_cast n (instance_at n s.targets).bubble.kind [] s none_short h
 
   taken_by : (c : Bool) (n : ℕ) (s : Scene) → IsSceneCast s → IfGoes (if c then bubble_emptied n s else Goes s) IsSceneCast
   taken_by true n s h = emptied_cast n s h

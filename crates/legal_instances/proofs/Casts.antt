@@ -36,6 +36,7 @@ later p m n i le h = record {
   effects = h.effects;
   stage = h.stage;
   updated = (let u = h.updated in omega (arith, u));
+  short = h.short;
   rising = h.rising;
   edges = h.edges;
 }

@@ -23,7 +23,7 @@ use Rattle.legal_instances.specs.Instances.{IsOriginal, IsClone, IsEdgeHat, IsIn
 use Rattle.legal_instances.proofs.Casts.{IsCast, found_at}
 use Rattle.legal_instances.proofs.Changes.{Heads, each_found, each_removed, head_map, length_map, each_mapped, length_filter}
 use Rattle.legal_instances.proofs.Layers.{length_remove}
-use Rattle.legal_instances.proofs.Looks.{said, coloured, edged, none_set, noted_rise, noted_each}
+use Rattle.legal_instances.proofs.Looks.{said, coloured, edged, none_set, none_short, noted_rise, noted_each}
 
 -- The first of a list stays where another is taken out
 
@@ -116,7 +116,7 @@ module _ (p : Program) (usage : ℕ) (is : List Instance) (h : IsCast p usage is
   }
 
   cleared_legal : (i : Instance) → IsInstance p usage i → IsInstance p usage (cleared i)
-  cleared_legal i g = said p usage (record i { effects = no_effects }) (coloured p usage i g no_effects none_set) (record i.bubble { text = [] }) g.updated
+  cleared_legal i g = said p usage (record i { effects = no_effects }) (coloured p usage i g no_effects none_set) (record i.bubble { text = [] }) g.updated none_short
 
   pub stopped_cast : IsCast p usage (map cleared (filter (λ i. not (is_clone p.records i.number)) is))
   stopped_cast = let test : Instance → Bool = λ i. not (is_clone p.records i.number) in record {
@@ -168,6 +168,7 @@ copied_legal p usage n i above off h = record {
   effects = h.effects;
   stage = λ t. absurd (clash (is_on_stage i p.records) t off);
   updated = (let u = h.updated in omega (arith, u));
+  short = none_short;
   rising = h.rising;
   edges = h.edges;
 }

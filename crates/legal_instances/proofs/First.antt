@@ -14,7 +14,7 @@ use Rattle.legal_instances.specs.Instances.{IsInstance, IsLegalCast}
 use Rattle.legal_instances.proofs.Casts.{IsCast, legal_of}
 use Rattle.legal_instances.proofs.Changes.{Heads, each_get}
 use Rattle.legal_instances.proofs.Clones.{got_below, heads_both}
-use Rattle.legal_instances.proofs.Looks.{none_set}
+use Rattle.legal_instances.proofs.Looks.{none_set, none_short}
 
 abbrev Numbered : Type 0
 Numbered = List (ℕ × TargetRecord)
@@ -118,6 +118,7 @@ module _ (p : Program) (play : IsPlayable p) where
     effects = none_set;
     stage = λ s. t.stage (ap (λ (y : TargetRecord). y.is_stage) (sym r) ∙ s);
     updated = omega arith;
+    short = none_short;
     rising = tt;
     edges = tt;
   }

@@ -75,7 +75,7 @@ module _ (p : Program) (seed : ℕ) (play : IsPlayable p) where
     redraw = λ w b h. legal_of p seed (record w { redraw = b }) (cast_of p seed w h) h.words;
     given = λ w n h. legal_of p seed (record w { next_thread = w.next_thread + 1 }) (cast_of p seed w h) h.words;
     evaluates = λ w v inputs h. goes_weaker _ (λ d. IsOfSeed seed d.words) (λ d. Legal (record w { words = d.words })) (λ d g. legal_of p seed (record w { words = d.words }) (cast_of p seed w h) g) (values_sourced seed v inputs w.words h.words);
-    rows = λ w t s c a x stands h e fits. row_legal w t s c a x stands h e;
+    rows = λ w t s c a x stands names h e fits. row_legal w t s c a x stands h e;
     drops = λ w n h. goes_weaker (questions_dropped n (scene_of w)) (IsSceneCast p) (λ s. Legal (with_scene w s)) (λ s g. scene_legal w s g h) (dropped_cast p n (scene_of w) (cast_of p seed w h));
     stops = λ w inhabited h. legal_of p seed _ (stopped_cast p w.devices.usage w.targets (cast_of p seed w h)) h.words;
     disposes = λ w n inhabited clone h. legal_of p seed _ (disposed_cast p w.devices.usage w.targets (cast_of p seed w h) n clone) h.words;

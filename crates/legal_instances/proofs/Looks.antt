@@ -11,11 +11,13 @@ use Rattle.scratch_values.specs.Folding.{folded}
 use Rattle.script_machine.specs.declared.bubble.Bubble.{Bubble}
 use Rattle.script_machine.specs.declared.instance.Instance.{Instance}
 use Rattle.script_machine.specs.declared.instance.Style.{Style}
+use Rattle.script_machine.specs.BubbleText.{IsShort, cut, most_characters}
 use Rattle.script_machine.specs.Effects.{effect_names, no_effects}
 use Rattle.script_machine.specs.Frame.{with_edge}
 use Rattle.script_machine.specs.Looks.{effect_named, effect_kept, size_kept}
 use Rattle.script_machine.specs.Program.{Program}
 use Rattle.script_machine.specs.Stores.{is_on_stage, record_of}
+use Rattle.script_machine.proofs.Bubbles.{char_count-nil, char_count-take_chars}
 use Rattle.legal_threads.specs.Lists.{Each, Rise, RiseAbove}
 use Rattle.legal_threads.specs.Playable.{IsBetween, IsSize, IsDirection}
 use Rattle.legal_threads.proofs.Numbers.{clash, equal}
@@ -33,12 +35,13 @@ module _ (p : Program) (usage : ℕ) (i : Instance) (h : IsInstance p usage i) w
     effects = h.effects;
     stage = λ t. absurd (clash (is_on_stage i p.records) t e);
     updated = h.updated;
+    short = h.short;
     rising = h.rising;
     edges = h.edges;
   }
 
   pub styled : (s : Style) → IsInstance p usage (record i { style = s })
-  styled s = record { kind = h.kind; costume = h.costume; size = h.size; direction = h.direction; effects = h.effects; stage = h.stage; updated = h.updated; rising = h.rising; edges = h.edges }
+  styled s = record { kind = h.kind; costume = h.costume; size = h.size; direction = h.direction; effects = h.effects; stage = h.stage; updated = h.updated; short = h.short; rising = h.rising; edges = h.edges }
 
   pub sized : (s : Num) → is_on_stage i p.records ≡ false → IsSize s → IsInstance p usage (record i { size = s })
   sized s e g = record {
@@ -49,6 +52,7 @@ module _ (p : Program) (usage : ℕ) (i : Instance) (h : IsInstance p usage i) w
     effects = h.effects;
     stage = λ t. absurd (clash (is_on_stage i p.records) t e);
     updated = h.updated;
+    short = h.short;
     rising = h.rising;
     edges = h.edges;
   }
@@ -62,26 +66,35 @@ module _ (p : Program) (usage : ℕ) (i : Instance) (h : IsInstance p usage i) w
     effects = h.effects;
     stage = λ t. absurd (clash (is_on_stage i p.records) t e);
     updated = h.updated;
+    short = h.short;
     rising = h.rising;
     edges = h.edges;
   }
 
   pub dressed : (k : ℕ) → k < length (record_of i p.records).costumes → IsInstance p usage (record i { costume = k })
-  dressed k g = record { kind = h.kind; costume = g; size = h.size; direction = h.direction; effects = h.effects; stage = h.stage; updated = h.updated; rising = h.rising; edges = h.edges }
+  dressed k g = record { kind = h.kind; costume = g; size = h.size; direction = h.direction; effects = h.effects; stage = h.stage; updated = h.updated; short = h.short; rising = h.rising; edges = h.edges }
 
   pub coloured : (es : List Num) → HasEffects es → IsInstance p usage (record i { effects = es })
-  coloured es g = record { kind = h.kind; costume = h.costume; size = h.size; direction = h.direction; effects = g; stage = h.stage; updated = h.updated; rising = h.rising; edges = h.edges }
+  coloured es g = record { kind = h.kind; costume = h.costume; size = h.size; direction = h.direction; effects = g; stage = h.stage; updated = h.updated; short = h.short; rising = h.rising; edges = h.edges }
 
-  pub said : (b : Bubble) → b.usage < usage → IsInstance p usage (record i { bubble = b })
-  said b g = record { kind = h.kind; costume = h.costume; size = h.size; direction = h.direction; effects = h.effects; stage = h.stage; updated = g; rising = h.rising; edges = h.edges }
+  pub said : (b : Bubble) → b.usage < usage → IsShort b.text → IsInstance p usage (record i { bubble = b })
+  said b g k = record { kind = h.kind; costume = h.costume; size = h.size; direction = h.direction; effects = h.effects; stage = h.stage; updated = g; short = k; rising = h.rising; edges = h.edges }
 
   pub edged : (es : List (ℕ × Bool)) → Rise (map (λ e. e.0) es) → Each (λ e. IsEdgeHat p i.of e.0) es → IsInstance p usage (record i { edges = es })
-  edged es g k = record { kind = h.kind; costume = h.costume; size = h.size; direction = h.direction; effects = h.effects; stage = h.stage; updated = h.updated; rising = g; edges = k }
+  edged es g k = record { kind = h.kind; costume = h.costume; size = h.size; direction = h.direction; effects = h.effects; stage = h.stage; updated = h.updated; short = h.short; rising = g; edges = k }
 
 -- Sizes
 
 pub size_fits : (n : Num) → IsNumber n → IsSize (size_kept n)
 size_fits n h = kept_between (pos 0) (pos 10000000000) n refl h
+
+-- Texts of bubbles
+
+pub none_short : IsShort []
+none_short = rw char_count-nil (omega arith)
+
+pub cut_short : (t : List ℕ) → IsShort (cut t)
+cut_short t = char_count-take_chars most_characters t
 
 -- Effects
 

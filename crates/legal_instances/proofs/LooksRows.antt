@@ -21,7 +21,7 @@ use Rattle.script_machine.specs.Outcome.{Goes, IfGoes}
 use Rattle.script_machine.specs.Parts.{Scene, LooksParts, bubble_updated}
 use Rattle.script_machine.specs.Program.{Program, no_target, stage_number}
 use Rattle.script_machine.specs.Stores.{live, is_on_stage, record_of}
-use Rattle.script_machine.specs.Texts.{bubble_text}
+use Rattle.script_machine.specs.Texts.{bubble_text, uncut_bubble_text}
 use Rattle.script_machine.specs.Threads.{Listed}
 use Rattle.script_machine.specs.View.{Row, value_at, number_at, field_at}
 use Rattle.script_machine.specs.Words.{Words, draw}
@@ -35,7 +35,7 @@ use Rattle.legal_instances.proofs.Casts.{IsCast, found_at, cast_changed}
 use Rattle.legal_instances.proofs.Changes.{each_get, each_found}
 use Rattle.legal_instances.proofs.Costumes.{IsCostume, switched_below}
 use Rattle.legal_instances.proofs.Layers.{after_above, end_above, sprite_behind, layer_cast}
-use Rattle.legal_instances.proofs.Looks.{sized, seen, dressed, coloured, size_fits, none_set, effect_fits, IsKeepable, added_keepable, set_keepable}
+use Rattle.legal_instances.proofs.Looks.{cut_short, sized, seen, dressed, coloured, size_fits, none_set, effect_fits, IsKeepable, added_keepable, set_keepable}
 
 few_by : (p : Program) (play : IsPlayable p) (k : ℕ) (o : Option TargetRecord) → slice_get p.records.targets k ≡ o → length (unwrap_or o no_target).costumes < 2 ^ 32
 few_by p play k None e = omega arith
@@ -75,7 +75,7 @@ module _ (p : Program) (play : IsPlayable p) where
   effect_cast here (Some k) n v g h = changed_cast here (λ i. with_effect k (n k i) i) v (λ i. record { number = refl; of = refl }) (λ i e a. coloured p v.scene.devices.usage i a _ (effect_fits i.effects k (n k i) (g k i a) a.effects)) h
 
   spoken_cast : (here : ℕ) (kind : Say) (a : Arguments) (v : LooksParts) (next : LooksParts → Row LooksParts) → ((s : Scene) → IsCast p s.devices.usage s.targets → Kept (next (record v { scene = s }))) → IsLooksCast v → IfGoes (spoken kind a here v next) Kept
-  spoken_cast here kind a v next g h = goes_then (bubble_updated here kind (bubble_text (value_at (codes "MESSAGE") a)) v.scene) (λ s. Goes (next (record v { scene = s }))) (λ s. IsCast p s.devices.usage s.targets) Kept (updated_cast p here kind _ v.scene h) g
+  spoken_cast here kind a v next g h = goes_then (bubble_updated here kind (bubble_text (value_at (codes "MESSAGE") a)) v.scene) (λ s. Goes (next (record v { scene = s }))) (λ s. IsCast p s.devices.usage s.targets) Kept (updated_cast p here kind (bubble_text (value_at (codes "MESSAGE") a)) v.scene (cut_short (uncut_bubble_text (value_at (codes "MESSAGE") a))) h) g
 
   -- costumes
   costume_at : (n : ℕ) (k : ℕ) (x : Instance) (v : LooksParts) → live n v.scene.targets ≡ Some x → k < length (record_of x p.records).costumes → IsLooksCast v → IsLooksCast (changed (with_costume k) n v)

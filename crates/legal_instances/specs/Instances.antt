@@ -4,6 +4,7 @@ use Rattle.opcode_table.specs.Kinds.{hat_kind}
 use Rattle.scratch_number.specs.declared.number.Num.{Num}
 use Rattle.script_machine.specs.declared.effects.Effect.TheVariants.{Brightness, Ghost}
 use Rattle.script_machine.specs.declared.instance.Instance.{Instance}
+use Rattle.script_machine.specs.BubbleText.{IsShort}
 use Rattle.script_machine.specs.Effects.{effect_place}
 use Rattle.script_machine.specs.Frame.{is_edge_hat}
 use Rattle.script_machine.specs.Program.{Program, Records, Head, hat_block, scripts_at}
@@ -37,7 +38,7 @@ pub record IsEdgeHat (p : Program) (target block : ℕ) : Type 0 where
   pub block_is : hat_block head ≡ block
   pub edge : is_edge_hat (hat_kind (op_of head.hat)) ≡ true
 
--- an instance, where `usage` is the number of the next update of a bubble
+-- an instance, where `usage` is the number of the next update of a bubble; the text of its bubble is short
 pub record IsInstance (p : Program) (usage : ℕ) (i : Instance) : Type 0 where
   pub kind : IsOriginal p.records i ⊎ IsClone p.records i
   pub costume : i.costume < length (record_of i p.records).costumes
@@ -46,6 +47,7 @@ pub record IsInstance (p : Program) (usage : ℕ) (i : Instance) : Type 0 where
   pub effects : HasEffects i.effects
   pub stage : is_on_stage i p.records ≡ true → IsAsTheStage i.x i.y i.size i.direction i.visible
   pub updated : i.bubble.usage < usage
+  pub short : IsShort i.bubble.text
   pub rising : Rise (map (λ e. e.0) i.edges)
   pub edges : Each (λ e. IsEdgeHat p i.of e.0) i.edges
 
