@@ -4,3 +4,4 @@ pub mod Accepting
 pub mod Tests
 pub mod Desk
 pub mod Stored
+pub mod Cast

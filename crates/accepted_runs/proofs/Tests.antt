@@ -82,3 +82,21 @@ all_four a b c d h = let p = both (a && b && c) d h in let q = all_three a b c p
 
 pub all_five : (a b c d e : Bool) → (a && b && c && d && e) ≡ true → (a ≡ true) × (b ≡ true) × (c ≡ true) × (d ≡ true) × (e ≡ true)
 all_five a b c d e h = let p = both (a && b && c && d) e h in let q = all_four a b c d p.0 in (q.0, q.1, q.2, q.3, p.1)
+
+-- the element is among these
+abbrev pub Among : {A : Type 0} → A → List A → Type 0
+Among x [] = ⊥
+Among x (y ∷ ys) = (y ≡ x) ⊎ Among x ys
+
+pub of_each : {A : Type 0} (P : A → Type 0) (xs : List A) (x : A) → Each P xs → Among x xs → P x
+of_each P [] x all m = absurd m
+of_each P (y ∷ ys) x all (inl e) = subst P e all.0
+of_each P (y ∷ ys) x all (inr m) = of_each P ys x all.1 m
+
+pub where_among : {A : Type 0} (P : A → Type 0) (xs : List A) → ((x : A) → Among x xs → P x) → Each P xs
+where_among P [] f = tt
+where_among P (x ∷ xs) f = (f x (inl refl), where_among P xs (λ y m. f y (inr m)))
+
+-- the element passes
+pub passes : {A : Type 0} (test : A → Bool) (xs : List A) (x : A) → list_all test xs ≡ true → Among x xs → test x ≡ true
+passes test xs x h m = of_each (λ y. test y ≡ true) xs x (all_each test xs h) m
