@@ -5,3 +5,4 @@ pub mod Tests
 pub mod Desk
 pub mod Stored
 pub mod Cast
+pub mod Contexts
