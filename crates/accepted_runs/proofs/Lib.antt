@@ -6,3 +6,4 @@ pub mod Desk
 pub mod Stored
 pub mod Cast
 pub mod Contexts
+pub mod Threads
