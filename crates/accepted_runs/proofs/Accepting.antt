@@ -1,18 +1,17 @@
 -- What is accepted as a saved run: it has its shape, breaks no rule, and each thread is well.
-use Rattle.std.proofs.Common.{◌≡◌, ℕ, zero, suc, Bool, true, false, not, List, [], ◌∷◌, bytes_eq, find, slice_get, Option, Some, None, option_map, Result, Ok, Err, if◌then◌else◌, refl, sym, ap, ◌∙◌, subst, arith}
+use Rattle.std.proofs.Common.{◌≡◌, ℕ, zero, suc, Bool, true, false, not, List, [], ◌∷◌, bytes_eq, find, slice_get, Option, Some, None, option_map, Result, Ok, Err, if◌then◌else◌, refl, subst}
 use Rattle.hex.specs.Hex.{encode_lower}
 use Rattle.serde_json.specs.Data.{Data}
 use Rattle.saved_text.specs.Saved.{saved_text}
 use Rattle.legal_threads.specs.Lists.{Each}
 use Rattle.saved_rules.specs.Basis.{Basis}
-use Rattle.saved_rules.specs.Kept.{SavedThread, thread}
+use Rattle.saved_rules.specs.Kept.{thread}
 use Rattle.saved_rules.specs.Levels.{bad_thread, thread_is_well}
 use Rattle.saved_rules.specs.Rules as rules
 use Rattle.saved_rules.specs.Rules.{Rule, rule, broken}
 use Rattle.saved_rules.specs.RunShapes.{Told, run}
 use Rattle.saved_rules.specs.Refusals.{IsAccepted, first_difference, by_spelling, by_threads, by_rules, by_shape, by_version, judged, other_version}
 use Rattle.saved_rules.specs.declared.refusals.SaveRefusal.TheVariants.{OtherProject}
-use Rattle.accepted_runs.proofs.Readings.{same_ok}
 use Rattle.accepted_runs.proofs.Shaped.{IsShaped, run_gives}
 
 -- it breaks no rule, and no thread is bad

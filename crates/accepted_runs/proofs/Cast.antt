@@ -1,5 +1,5 @@
 -- The instances of an accepted saved run are legal.
-use Rattle.std.proofs.Common.{◌≡◌, ◌⊎◌, inl, inr, ℕ, zero, suc, ◌+◌, ◌<◌, ◌≤◌, ◌==◌, ◌&&◌, ◌||◌, ℤ, pos, negsuc, int_le, Bool, true, false, cond, not, nat_lt, nat_le, List, [], ◌∷◌, map, filter, length, slice_get, unwrap_or, Option, Some, None, refl, sym, ap, ◌∙◌, subst, arith}
+use Rattle.std.proofs.Common.{◌≡◌, ◌⊎◌, inl, inr, ℕ, zero, suc, ◌+◌, ◌<◌, ◌≤◌, ◌==◌, ◌&&◌, ◌||◌, ℤ, pos, negsuc, int_le, Bool, true, false, cond, not, nat_lt, nat_le, List, [], ◌∷◌, map, filter, length, slice_get, unwrap_or, Option, Some, None, refl, sym, ◌∙◌, subst, arith}
 use Rattle.std.specs.Prelude.{IsSomeAnd}
 use Rattle.std.specs.Fmt.{char_count}
 use Rattle.std.specs.List.{list_all, list_any, range_with_len}
@@ -8,30 +8,29 @@ use Rattle.std.proofs.lemmas.Bool.Decides.{nat_tests}
 use Rattle.opcode_table.specs.Kinds.{hat_kind}
 use Rattle.scratch_number.specs.declared.number.Num.{Num}
 use Rattle.scratch_number.specs.declared.number.Num.TheVariants.{Fixed, Inf, NegInf, Nan}
-use Rattle.script_machine.specs.BubbleText.{most_characters, IsShort}
+use Rattle.script_machine.specs.BubbleText.{most_characters}
 use Rattle.script_machine.specs.declared.effects.Effect.TheVariants.{Brightness, Ghost}
 use Rattle.script_machine.specs.declared.instance.Instance.{Instance}
 use Rattle.script_machine.specs.declared.records.TargetRecord.{TargetRecord}
 use Rattle.script_machine.specs.Effects.{effect_place}
 use Rattle.script_machine.specs.Frame.{is_edge_hat}
-use Rattle.script_machine.specs.Program.{Program, Records, Head, hat_block, scripts_at, record_at, no_target}
+use Rattle.script_machine.specs.Program.{Records, Head, hat_block, scripts_at, record_at, no_target}
 use Rattle.script_machine.specs.Script.{op_of}
 use Rattle.script_machine.specs.Stopping.{most_clones}
 use Rattle.script_machine.specs.Stores.{is_on_stage, record_of}
 use Rattle.legal_threads.specs.Instances.{Hosts, Inhabited}
 use Rattle.legal_threads.specs.Lists.{Each, Member, Differ, Rise}
-use Rattle.legal_threads.specs.Playable.{IsBetween, IsSize, IsDirection, IsAsTheStage}
+use Rattle.legal_threads.specs.Playable.{IsBetween, IsAsTheStage}
 use Rattle.legal_threads.specs.Threads.{Holds}
-use Rattle.legal_threads.proofs.Numbers.{clash, differ_filter, member_filter, each_map}
-use Rattle.legal_instances.specs.Instances.{IsClone, IsOriginal, HasEffects, IsEdgeHat, IsInstance, IsLegalCast}
+use Rattle.legal_threads.proofs.Numbers.{clash, differ_filter, each_map}
+use Rattle.legal_instances.specs.Instances.{IsClone, IsOriginal, IsEdgeHat, IsInstance, IsLegalCast}
 use Rattle.legal_runs.specs.Worlds.{world_told}
 use Rattle.saved_rules.specs.Basis.{Basis, records_of, is_edge, is_edge_head}
-use Rattle.saved_rules.specs.InstanceShapes.{Standing}
 use Rattle.saved_rules.specs.Rules.{is_between, is_original, is_sprite, is_clone, is_next, effect_is_between, is_as_the_stage, has_short_texts, differ}
 use Rattle.saved_rules.specs.RunShapes.{Told}
 use Rattle.accepted_runs.proofs.Shaped.{IsShaped, IsShapedStanding}
 use Rattle.accepted_runs.proofs.Accepting.{Rules}
-use Rattle.accepted_runs.proofs.Tests.{both, either, all_three, all_four, all_five, not_true, below, up_to, equal, all_have, all_each, each_mapped, Among, of_each, where_among, passes}
+use Rattle.accepted_runs.proofs.Tests.{both, either, all_three, all_five, not_true, below, up_to, equal, all_have, each_mapped, Among, of_each, where_among, passes}
 use Rattle.accepted_runs.proofs.Desk.{words}
 use Rattle.accepted_runs.proofs.Stored.{apart}
 
@@ -137,9 +136,9 @@ Given b t i = (IsOriginal b.program.records i ⊎ IsClone b.program.records i) �
 given : (b : Basis) (t : Told) (i : Instance) → length b.program.records.targets ≤ t.run.next_instance
     → (is_original i && nat_lt i.of (length (records_of b).targets) || is_clone b t i) ≡ true → Given b t i
 given b t i few h = elim (either (is_original i && nat_lt i.of (length (records_of b).targets)) (is_clone b t i) h) [
-    | inl e ↦ original e
-    | inr e ↦ clone e
-  ]
+  | inl e ↦ original e
+  | inr e ↦ clone e
+]
   where
     original : (is_original i && nat_lt i.of (length (records_of b).targets)) ≡ true → Given b t i
     original e =
@@ -165,9 +164,9 @@ record EdgeAmong (block : ℕ) (heads : List Head) : Type 0 where
 edge_among : (block : ℕ) (heads : List Head) → list_any (is_edge_head block) heads ≡ true → EdgeAmong block heads
 edge_among block [] h = absurd (cc h)
 edge_among block (x ∷ heads) h = elim (either (is_edge_head block x) (list_any (is_edge_head block) heads) h) [
-    | inl e ↦ here e
-    | inr e ↦ further (edge_among block heads e)
-  ]
+  | inl e ↦ here e
+  | inr e ↦ further (edge_among block heads e)
+]
   where
     here : is_edge_head block x ≡ true → EdgeAmong block (x ∷ heads)
     here e =
@@ -245,9 +244,9 @@ module _ (b : Basis) (t : Told) (s : IsShaped t) (r : Rules b t) where
 
   on_stage : (i : Instance) → (not (is_on_stage i (records_of b)) || is_as_the_stage i) ≡ true → is_on_stage i b.program.records ≡ true → IsAsTheStage i.x i.y i.size i.direction i.visible
   on_stage i h e = elim (either (not (is_on_stage i (records_of b))) (is_as_the_stage i) h) [
-      | inl n ↦ absurd (clash (is_on_stage i b.program.records) e (not_true (is_on_stage i b.program.records) n))
-      | inr n ↦ as_the_stage i n
-    ]
+    | inl n ↦ absurd (clash (is_on_stage i b.program.records) e (not_true (is_on_stage i b.program.records) n))
+    | inr n ↦ as_the_stage i n
+  ]
 
   instance : (i : Instance) → Among i t.run.targets → IsInstance b.program t.run.devices.usage i
   unfolding brightness ghost
@@ -287,7 +286,7 @@ module _ (b : Basis) (t : Told) (s : IsShaped t) (r : Rules b t) where
   counted : length t.run.targets ≤ length b.program.records.targets + most_clones
   counted =
       let originals = no_more (λ (i : Instance). i.number) (length b.program.records.targets) (filter is_original t.run.targets) (differ_filter (λ (i : Instance). i.number) is_original t.run.targets (apart b t s r))
-          (each_passed (λ i. i.number < length b.program.records.targets) is_original t.run.targets (each_map (Given b t) (λ i. is_original i ≡ true → i.number < length b.program.records.targets) t.run.targets of_target all_given)) in
+      (each_passed (λ i. i.number < length b.program.records.targets) is_original t.run.targets (each_map (Given b t) (λ i. is_original i ≡ true → i.number < length b.program.records.targets) t.run.targets of_target all_given)) in
       let clones = up_to (length (filter (λ i. not (is_original i)) t.run.targets)) 300 r.few in
       let parts = two_parts is_original t.run.targets in
       omega arith

@@ -1,21 +1,21 @@
 -- What blocks keep that pass the tests of saved runs, they can keep.
-use Rattle.std.proofs.Common.{◌≡◌, ℕ, zero, suc, ◌<◌, ◌≤◌, ◌&&◌, ◌||◌, pos, negsuc, int_le, int_lt, Bool, true, false, not, nat_le, List, [], ◌∷◌, map, length, bytes_eq, Option, Some, None, refl, sym, ap, ◌∙◌, subst, arith}
+use Rattle.std.proofs.Common.{◌≡◌, ℕ, zero, suc, ◌<◌, pos, negsuc, Bool, true, false, nat_le, List, [], ◌∷◌, map, length, bytes_eq, Option, Some, None, refl, arith}
 use Rattle.std.specs.List.{list_all}
 use Rattle.std.proofs.lemmas.Bool.Decides.{nat_tests}
 use Rattle.std.proofs.lemmas.Slice.Eq.{bytes_eq-Decides}
 use Rattle.opcode_table.specs.declared.kinds.Kind.{Kind}
-use Rattle.opcode_table.specs.declared.kinds.Kind.TheVariants.{Choice, Endless, Counted, Calls, Waits, Glides, Starts, Asks, Speaks, Plain}
+use Rattle.opcode_table.specs.declared.kinds.Kind.TheVariants.{Choice, Endless, Counted, Waits, Glides, Starts, Asks, Speaks}
 use Rattle.opcode_table.specs.Kinds.{kind}
 use Rattle.scratch_number.specs.declared.number.Num.{Num}
 use Rattle.scratch_number.specs.declared.number.Num.TheVariants.{Fixed, Inf, NegInf, Nan}
 use Rattle.scratch_values.specs.Casts.{zero_number}
 use Rattle.script_machine.specs.Called.{called}
 use Rattle.script_machine.specs.declared.threads.Context.{Context}
-use Rattle.script_machine.specs.declared.threads.Context.TheVariants.{Fresh, Repeat, Wait, Glide, Started, Asked, Spoken, Called}
+use Rattle.script_machine.specs.declared.threads.Context.TheVariants.{Fresh, Repeat, Wait, Glide, Started, Asked, Spoken}
 use Rattle.script_machine.specs.declared.threads.Count.{Count}
 use Rattle.script_machine.specs.declared.threads.Count.TheVariants.{Whole, Infinite}
 use Rattle.script_machine.specs.Keeping.{is_left}
-use Rattle.script_machine.specs.Legal.{distinct, Fits, HasNames, Keeps, KeepsAgain, Legal, Markers}
+use Rattle.script_machine.specs.Legal.{distinct, Fits, Keeps, KeepsAgain, Legal, Markers}
 use Rattle.script_machine.specs.Pending.{Item, Do, Held, Returned, Branch, Again, Back}
 use Rattle.script_machine.specs.Program.{Program, Procedure}
 use Rattle.script_machine.specs.Script.{Script, op_of}
@@ -24,7 +24,7 @@ use Rattle.script_machine.specs.Threads.{Params}
 use Rattle.legal_threads.specs.Lists.{Each}
 use Rattle.legal_threads.specs.Positions.{KeptWell}
 use Rattle.saved_rules.specs.Legal.{AllStand, StandsIn}
-use Rattle.saved_rules.specs.Threads.{is_from_zero, is_above_zero, is_some_thread, loops_with, may_keep, same_texts, has_names, is_choice, first_fits, marker_fits, items_fit}
+use Rattle.saved_rules.specs.Threads.{is_from_zero, is_above_zero, is_some_thread, loops_with, may_keep, same_texts, has_names, is_choice, marker_fits, items_fit}
 use Rattle.accepted_runs.proofs.Tests.{both, up_to}
 
 -- Times

@@ -1,19 +1,16 @@
 -- The devices, counters and words of an accepted saved run are legal.
-use Rattle.std.proofs.Common.{◌≡◌, ℕ, ◌<◌, ◌≤◌, ◌^◌, ◌*◌, ◌&&◌, ◌||◌, pos, Bool, true, false, not, nat_lt, nat_le, unsigned_abs, List, [], ◌∷◌, length, bytes_eq, Option, Some, None, refl, sym, ap, ◌∙◌, subst, arith}
+use Rattle.std.proofs.Common.{◌≡◌, ℕ, ◌<◌, ◌≤◌, ◌||◌, Bool, true, false, not, nat_lt, nat_le, unsigned_abs, List, [], ◌∷◌, length, bytes_eq, Option, Some, None, refl, sym, ap, ◌∙◌, subst, arith}
 use Rattle.std.specs.Prelude.{filter_map}
 use Rattle.std.specs.List.{list_all, list_any}
 use Rattle.std.specs.Option.{option_map_or}
-use Rattle.std.proofs.lemmas.Bool.Decides.{nat_tests}
 use Rattle.std.proofs.lemmas.Slice.Eq.{bytes_eq-Decides}
 use Rattle.scratch_number.specs.declared.number.Num.{Num}
 use Rattle.scratch_number.specs.declared.number.Num.TheVariants.{Fixed, Inf, NegInf, Nan}
-use Rattle.script_machine.specs.declared.devices.BubbleTimer.{BubbleTimer}
 use Rattle.script_machine.specs.declared.devices.Key.{Key}
 use Rattle.script_machine.specs.Line.{key_name}
 use Rattle.script_machine.specs.Outcome.{last_number}
 use Rattle.script_machine.specs.ScriptText.{key_of_rest}
-use Rattle.script_machine.specs.Stores.{Devices}
-use Rattle.legal_threads.specs.GoodLines.{IsNamedKey, last_clock}
+use Rattle.legal_threads.specs.GoodLines.{IsNamedKey}
 use Rattle.legal_threads.specs.Lists.{Each}
 use Rattle.legal_devices.specs.Devices.{IsDue, IsTimer, KeysDiffer, AreDevices, IsLegalDesk}
 use Rattle.legal_words.specs.Words.{words_after, IsOfSeed}

@@ -7,3 +7,4 @@ pub mod Stored
 pub mod Cast
 pub mod Contexts
 pub mod Threads
+pub mod Reached

@@ -1,5 +1,5 @@
 -- What readers give: a fact of what was read, from the facts of its parts.
-use Rattle.std.proofs.Common.{◌≡◌, ℕ, ◌+◌, ◌==◌, Bool, true, false, List, [], ◌∷◌, length, Option, Some, None, option_and_then, slice_get, Result, Ok, Err, if◌then◌else◌, bytes_eq, refl, sym, ap, ◌∙◌, subst, inl, inr}
+use Rattle.std.proofs.Common.{◌≡◌, ℕ, ◌+◌, ◌==◌, Bool, true, false, List, [], ◌∷◌, length, Option, Some, None, option_and_then, slice_get, Result, Ok, Err, if◌then◌else◌, bytes_eq, refl, ap, subst}
 use Rattle.std.specs.Fmt.{decimal}
 use Rattle.std.specs.Option.{option_or}
 use Rattle.std.proofs.lemmas.Bool.Decides.{Decides-eqb}
@@ -8,7 +8,7 @@ use Rattle.serde_json.specs.Find.{get, as_str}
 use Rattle.scratch_values.specs.Named.{item_named}
 use Rattle.shapes.specs.Shapes.{Reader, found, ◌>>=◌}
 use Rattle.legal_threads.specs.Lists.{Each}
-use Rattle.saved_rules.specs.Shapes.{each, each_from, items, member, part, row, sized, word, list_of}
+use Rattle.saved_rules.specs.Shapes.{each, each_from, items, member, part, row, sized, word}
 
 -- what the reader gives has the fact
 abbrev pub Gives : {X A : Type 0} → (A → Type 0) → Reader X A → Type 0

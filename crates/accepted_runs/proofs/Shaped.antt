@@ -1,9 +1,8 @@
 -- What the shape of a saved run gives: its parts are as they were read.
-use Rattle.std.proofs.Common.{◌≡◌, ℕ, ◌≤◌, ◌==◌, nat_le, ℤ, unsigned_abs, Bool, true, false, List, [], ◌∷◌, map, length, reverse, Option, Some, None, option_and_then, Result, Ok, Err, if◌then◌else◌, codes, refl, sym, ap, ◌∙◌, subst, inl, inr, arith}
-use Rattle.std.specs.Prelude.{filter_map, nat_lt, ◌&&◌}
-use Rattle.std.specs.Option.{option_or}
+use Rattle.std.proofs.Common.{◌≡◌, ℕ, ◌≤◌, nat_le, ℤ, unsigned_abs, Bool, true, false, List, [], ◌∷◌, map, length, reverse, Some, None, option_and_then, Ok, if◌then◌else◌, codes, refl, sym, ◌∙◌, subst, arith}
+use Rattle.std.specs.Prelude.{filter_map, nat_lt}
 use Rattle.std.proofs.lemmas.Bool.Decides.{nat_tests}
-use Rattle.serde_json.specs.Data.{Data, null, boolean, number, string, array, object}
+use Rattle.serde_json.specs.Data.{null, boolean, string}
 use Rattle.serde_json.specs.Find.{as_str, as_number, as_i64}
 use Rattle.scratch_number.specs.Limit.{limit}
 use Rattle.scratch_number.specs.Number.{IsWithin}
@@ -15,11 +14,11 @@ use Rattle.scratch_values.specs.declared.value.Value.TheVariants.{Number, Truth,
 use Rattle.script_machine.specs.ScriptText.{key_of_rest}
 use Rattle.script_machine.specs.declared.threads.Count.{Count}
 use Rattle.script_machine.specs.declared.threads.Count.TheVariants.{Whole, Infinite}
-use Rattle.shapes.specs.Shapes.{Reader, found, ◌>>=◌}
+use Rattle.shapes.specs.Shapes.{found}
 use Rattle.legal_threads.specs.Lists.{Each, Rise, RiseAbove}
 use Rattle.legal_turns.specs.Within.{IsValueWithin, IsCountWithin, IsInstanceWithin, IsStoreWithin, AreParamsWithin, most_turns}
 use Rattle.saved_rules.specs.Kept.{Kept, Nothing, Loop, Repeat, Wait, Glide, Started, Asked, Spoken, Call, SavedLevel, SavedThread}
-use Rattle.saved_rules.specs.Shapes.{whole, truth, text, num, num_words, millionths, value, each, each_from, items, member, part, row, sized, table, if_some}
+use Rattle.saved_rules.specs.Shapes.{whole, truth, text, num, num_words, millionths, value, each, items, member, part, row, sized, table, if_some}
 use Rattle.saved_rules.specs.InstanceShapes as instances
 use Rattle.saved_rules.specs.InstanceShapes.{Standing, rises, rises_above}
 use Rattle.saved_rules.specs.ThreadShapes as threads
@@ -27,7 +26,7 @@ use Rattle.saved_rules.specs.RunShapes as runs
 use Rattle.saved_rules.specs.RunShapes.{Told, stores_in_order}
 use Rattle.std.proofs.lemmas.List.{reverse-append}
 use Rattle.legal_threads.proofs.Numbers.{each_append}
-use Rattle.accepted_runs.proofs.Readings.{Gives, goes_on, made, found_some, same_some, and_then, one_of, named_gives, word_gives, part_gives, member_gives, each_gives, each_from_gives, each_from_length, row_length}
+use Rattle.accepted_runs.proofs.Readings.{Gives, goes_on, made, found_some, same_some, and_then, one_of, named_gives, word_gives, part_gives, member_gives, each_gives, each_from_length, row_length}
 
 -- Numbers and values
 

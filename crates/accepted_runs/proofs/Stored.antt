@@ -1,6 +1,5 @@
 -- The variables, lists and monitors of an accepted saved run are legal.
 use Rattle.std.proofs.Common.{◌≡◌, ◌⊎◌, inl, inr, ℕ, ◌<◌, ◌≤◌, ◌==◌, Bool, true, false, nat_lt, nat_le, List, [], ◌∷◌, map, length, if◌then◌else◌, refl, sym, ap, ◌∙◌, subst, arith}
-use Rattle.std.specs.Prelude.{◌↔◌}
 use Rattle.std.specs.List.{list_all}
 use Rattle.std.proofs.lemmas.Bool.Decides.{nat_tests}
 use Rattle.script_machine.specs.DataRows.{most_items}
@@ -12,7 +11,7 @@ use Rattle.script_machine.specs.declared.variables.Shown.TheVariants.{Variable, 
 use Rattle.script_machine.specs.declared.variables.Store.{Store}
 use Rattle.legal_threads.specs.Lists.{Each, Member, Differ, Rise, RiseAbove}
 use Rattle.legal_variables.specs.Variables.{IsStoreOf, IsThere, IsLegalStores}
-use Rattle.saved_rules.specs.Basis.{Basis, records_of}
+use Rattle.saved_rules.specs.Basis.{Basis}
 use Rattle.saved_rules.specs.InstanceShapes.{Standing}
 use Rattle.saved_rules.specs.Rules.{differ, has_values, is_shown}
 use Rattle.saved_rules.specs.RunShapes.{Told, store_among, stores_in_order}
@@ -59,7 +58,7 @@ rises_among s (t ∷ ts) rise out = rise_by (nat_lt t.of s.of) s t ts refl rise 
 among_by : (c : Bool) (n : ℕ) (s t : Store) (ts : List Store) → (Member n (of_stores (store_among s ts)) → (s.of ≡ n) ⊎ Member n (of_stores ts))
     → Member n (of_stores (if c then t ∷ store_among s ts else s ∷ t ∷ ts)) → (s.of ≡ n) ⊎ Member n (of_stores (t ∷ ts))
 among_by true n s t ts rest (inl e) = inr (inl e)
-among_by true n s t ts rest (inr m) = elim (rest m) [ | inl e ↦ inl e | inr k ↦ inr (inr k) ]
+among_by true n s t ts rest (inr m) = elim (rest m) [ inl e ↦ inl e | inr k ↦ inr (inr k) ]
 among_by false n s t ts rest (inl e) = inl e
 among_by false n s t ts rest (inr m) = inr m
 
@@ -98,7 +97,7 @@ each_among P s (t ∷ ts) p all = each_by P (nat_lt t.of s.of) s t ts p all (eac
 
 in_order : (n : ℕ) (ss : List Store) → Member n (of_stores (stores_in_order ss)) → Member n (of_stores ss)
 in_order n [] m = m
-in_order n (s ∷ ss) m = elim (among n s (stores_in_order ss) m) [ | inl e ↦ inl e | inr k ↦ inr (in_order n ss k) ]
+in_order n (s ∷ ss) m = elim (among n s (stores_in_order ss) m) [ inl e ↦ inl e | inr k ↦ inr (in_order n ss k) ]
 
 kept_in_order : (n : ℕ) (ss : List Store) → Member n (of_stores ss) → Member n (of_stores (stores_in_order ss))
 kept_in_order n [] m = m
