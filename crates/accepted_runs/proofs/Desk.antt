@@ -1,5 +1,5 @@
 -- The devices, counters and words of an accepted saved run are legal.
-use Rattle.std.proofs.Common.{◌≡◌, ℕ, ◌<◌, ◌≤◌, ◌||◌, Bool, true, false, not, nat_lt, nat_le, unsigned_abs, List, [], ◌∷◌, length, bytes_eq, Option, Some, None, refl, sym, ap, ◌∙◌, subst, arith}
+use Rattle.std.proofs.Common.{◌≡◌, ℕ, ◌<◌, ◌≤◌, true, false, not, nat_lt, nat_le, unsigned_abs, List, [], ◌∷◌, length, bytes_eq, Option, Some, None, refl, sym, ap, ◌∙◌, subst, arith}
 use Rattle.std.specs.Prelude.{filter_map}
 use Rattle.std.specs.List.{list_all, list_any}
 use Rattle.std.specs.Option.{option_map_or}
@@ -20,7 +20,7 @@ use Rattle.saved_rules.specs.Rules.{is_key_name, texts_differ, is_due_time, is_n
 use Rattle.saved_rules.specs.RunShapes.{Told}
 use Rattle.accepted_runs.proofs.Shaped.{IsShaped}
 use Rattle.accepted_runs.proofs.Accepting.{Rules}
-use Rattle.accepted_runs.proofs.Tests.{both, all_four, not_true, below, up_to, all_have, each_two}
+use Rattle.accepted_runs.proofs.Tests.{both, all_four, neither, not_true, below, up_to, all_have, each_two}
 
 -- Keys
 
@@ -51,15 +51,11 @@ keys_named : (names : List (List ℕ)) → Each Named names → Each IsNamedKey 
 keys_named [] all = tt
 keys_named (name ∷ names) all = subst (Each IsNamedKey) (sym (first_told name names all.0.key all.0.told)) (named_key name all.0, keys_named names all.1)
 
-or_first : (a b : Bool) → (a || b) ≡ false → (a ≡ false) × (b ≡ false)
-or_first true b h = absurd (cc h)
-or_first false b h = (refl, h)
-
 others : (k : Key) (name : List ℕ) (names : List (List ℕ)) → key_name k ≡ name → Each Named names → list_any (bytes_eq name) names ≡ false
     → Each (λ other. bytes_eq (key_name k) (key_name other) ≡ false) (keys_of names)
 others k name [] e all h = tt
 others k name (n ∷ names) e all h =
-    let p = or_first (bytes_eq name n) (list_any (bytes_eq name) names) h in
+    let p = neither (bytes_eq name n) (list_any (bytes_eq name) names) h in
     let here : bytes_eq (key_name k) (key_name all.0.key) ≡ false = ap (λ t. bytes_eq t (key_name all.0.key)) e ∙ ap (bytes_eq name) all.0.same ∙ p.0 in
     subst (Each (λ other. bytes_eq (key_name k) (key_name other) ≡ false)) (sym (first_told n names all.0.key all.0.told)) (here, others k name names e all.1 p.1)
 

@@ -1,5 +1,5 @@
 -- What tests of lists and of numbers tell.
-use Rattle.std.proofs.Common.{◌≡◌, ◌⊎◌, inl, inr, ℕ, ◌<◌, ◌≤◌, ◌==◌, ◌&&◌, ◌||◌, Bool, true, false, not, nat_lt, nat_le, List, [], ◌∷◌, map, Option, Some, find, refl, subst, if◌then◌else◌, arith}
+use Rattle.std.proofs.Common.{◌≡◌, ◌⊎◌, inl, inr, ℕ, ◌<◌, ◌≤◌, ◌==◌, ◌&&◌, ◌||◌, Bool, true, false, not, nat_lt, nat_le, List, [], ◌∷◌, map, refl, subst, arith}
 use Rattle.std.specs.List.{list_all, list_any}
 use Rattle.std.proofs.lemmas.Bool.Decides.{Decides-eqb, nat_tests}
 use Rattle.legal_threads.specs.Lists.{Each, Member, Differ}
@@ -13,6 +13,10 @@ both false b h = absurd (cc h)
 pub either : (a b : Bool) → (a || b) ≡ true → (a ≡ true) ⊎ (b ≡ true)
 either true b h = inl refl
 either false b h = inr h
+
+pub neither : (a b : Bool) → (a || b) ≡ false → (a ≡ false) × (b ≡ false)
+neither true b h = absurd (cc h)
+neither false b h = (refl, h)
 
 pub not_true : (a : Bool) → not a ≡ true → a ≡ false
 not_true true h = absurd (cc h)
@@ -48,31 +52,14 @@ each_mapped g P (x ∷ xs) all = (all.0, each_mapped g P xs all.1)
 
 none_named : (n : ℕ) (ns : List ℕ) → list_any (λ m. m == n) ns ≡ false → Member n ns → ⊥
 none_named n [] h m = m
-none_named n (k ∷ ns) h (inl e) = clash (k == n) (equal_true k n e) (first (k == n) (list_any (λ m. m == n) ns) h)
-  where
-    first : (a b : Bool) → (a || b) ≡ false → a ≡ false
-    first true b e = absurd (cc e)
-    first false b e = refl
-none_named n (k ∷ ns) h (inr m) = none_named n ns (second (k == n) (list_any (λ m. m == n) ns) h) m
-  where
-    second : (a b : Bool) → (a || b) ≡ false → b ≡ false
-    second true b e = absurd (cc e)
-    second false b e = e
+none_named n (k ∷ ns) h (inl e) = clash (k == n) (equal_true k n e) (neither (k == n) (list_any (λ m. m == n) ns) h).0
+none_named n (k ∷ ns) h (inr m) = none_named n ns (neither (k == n) (list_any (λ m. m == n) ns) h).1 m
 
 pub numbers_differ : (ns : List ℕ) → differ ns ≡ true → Differ ns
 numbers_differ [] h = tt
 numbers_differ (n ∷ ns) h =
     let p = both (not (list_any (λ m. m == n) ns)) (differ ns) h in
     (none_named n ns (not_true (list_any (λ m. m == n) ns) p.0), numbers_differ ns p.1)
-
--- what was found passes, and is there
-find_by : {A : Type 0} (test : A → Bool) (c : Bool) (x y : A) (o : Option A) → test x ≡ c → (o ≡ Some y → test y ≡ true) → (if c then Some x else o) ≡ Some y → test y ≡ true
-find_by test true x y o e rest h = let same : x ≡ y = cc in subst (λ z. test z ≡ true) same e
-find_by test false x y o e rest h = rest h
-
-pub find_passes : {A : Type 0} (test : A → Bool) (xs : List A) (y : A) → find test xs ≡ Some y → test y ≡ true
-find_passes test [] y h = absurd (cc h)
-find_passes test (x ∷ xs) y h = find_by test (test x) x y (find test xs) refl (find_passes test xs y) h
 
 pub all_three : (a b c : Bool) → (a && b && c) ≡ true → (a ≡ true) × (b ≡ true) × (c ≡ true)
 all_three a b c h = let p = both (a && b) c h in let q = both a b p.0 in (q.0, q.1, p.1)
