@@ -1,0 +1,46 @@
+-- The world that an accepted saved run tells has all that reached worlds have.
+use Rattle.std.proofs.Common.{ℕ, List, map, sym, subst}
+use Rattle.legal_threads.specs.Lists.{Each}
+use Rattle.legal_threads.proofs.Numbers.{each_map}
+use Rattle.legal_turns.specs.Within.{IsInstanceWithin, IsStoreWithin}
+use Rattle.legal_runs.specs.Reached.{IsReached}
+use Rattle.legal_runs.specs.Worlds.{world_told}
+use Rattle.saved_rules.specs.Basis.{Basis}
+use Rattle.saved_rules.specs.Refusals.{IsAccepted}
+use Rattle.saved_rules.specs.RunShapes.{Told}
+use Rattle.accepted_runs.proofs.Shaped.{IsShaped, IsShapedStanding}
+use Rattle.accepted_runs.proofs.Accepting.{holds, all_well, named}
+use Rattle.accepted_runs.proofs.Tests.{each_mapped}
+use Rattle.accepted_runs.proofs.Desk.{desk}
+use Rattle.accepted_runs.proofs.Stored.{stored, each_in_order}
+use Rattle.accepted_runs.proofs.Cast.{cast}
+use Rattle.accepted_runs.proofs.Threads.{threads_legal, all_within}
+
+instances_within : (t : Told) → IsShaped t → Each IsInstanceWithin t.run.targets
+instances_within t s =
+    subst (Each IsInstanceWithin) (sym s.targets)
+    (each_mapped (λ x. x.instance) IsInstanceWithin s.standings (each_map IsShapedStanding (λ x. IsInstanceWithin x.instance) s.standings (λ x h. h.within) s.shaped))
+
+stores_within : (t : Told) → IsShaped t → Each IsStoreWithin t.run.variables.stores
+stores_within t s =
+    subst (Each IsStoreWithin) (sym s.stores)
+    (each_in_order IsStoreWithin (map (λ x. x.store) s.standings)
+    (each_mapped (λ x. x.store) IsStoreWithin s.standings (each_map IsShapedStanding (λ x. IsStoreWithin x.store) s.standings (λ x h. h.store) s.shaped)))
+
+pub accepted_is_reached : (b : Basis) (digest bytes : List ℕ) (t : Told) → IsAccepted b digest bytes t → IsReached b.program t.run.seed (world_told b t)
+accepted_is_reached b digest bytes t a =
+    let h = holds b digest bytes t a in
+    let r = named b t h.keeps.rules in
+    let wells = all_well b t h.keeps.threads in
+    record {
+      threads = threads_legal b t h.shaped r wells;
+      instances = cast b t h.shaped r;
+      variables = stored b t h.shaped r;
+      devices = desk b t h.shaped r;
+      numbers = record {
+        instances = instances_within t h.shaped;
+        stores = stores_within t h.shaped;
+        listed = all_within b t h.shaped r wells;
+        detached = tt;
+      };
+    }
