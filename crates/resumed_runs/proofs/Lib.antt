@@ -2,3 +2,5 @@ pub mod Texts
 pub mod Numbers
 pub mod GoingOn
 pub mod Redraw
+pub mod Clock
+pub mod Readings
