@@ -1,5 +1,5 @@
 -- The clock of a world is the last clock reading: nothing but a frame line sets it.
-use Rattle.std.proofs.Common.{◌≡◌, ℕ, zero, suc, ◌+◌, ◌==◌, ◌&&◌, ◌||◌, not, Bool, true, false, if◌then◌else◌, List, [], ◌∷◌, length, drop, Option, Some, None, option_map, is_some, refl, sym, ap, ◌∙◌, subst}
+use Rattle.std.proofs.Common.{◌≡◌, ℕ, zero, suc, ◌+◌, ◌&&◌, ◌||◌, not, Bool, true, false, if◌then◌else◌, List, [], ◌∷◌, length, drop, Option, Some, None, option_map, is_some, refl}
 use Rattle.std.specs.Prelude.{codes, pos, negsuc, slice_get, slice_index_or}
 use Rattle.opcode_table.specs.declared.grouping.Group.{Group}
 use Rattle.opcode_table.specs.declared.grouping.Group.TheVariants.{Motion, Looks, Data, Control as ControlGroup}
@@ -35,23 +35,23 @@ use Rattle.script_machine.specs.BubbleText.{cut}
 use Rattle.script_machine.specs.ControlRows.{only, turns_left, repeat_row, wait_row, broadcast_and_wait, call_some, call_row, question_shown, asked, ask_row, question, control_row}
 use Rattle.script_machine.specs.DataRows.{data_row}
 use Rattle.script_machine.specs.Evaluate.{arguments_of, values, evaluated}
-use Rattle.script_machine.specs.Frame.{Found, next_due, without_timer, still_fits, timer_ended, end_due, timers_ended, edges, edge_value, recorded, edges_of, edge_noted, edge_fired, edge_passed, edge_view, edge_one, edges_passed, passes_go_on, passes, at_clock, numbered, frame}
-use Rattle.script_machine.specs.Line.{started, key_name, with_key, with_keys, key_down, reset, clicked, with_answer, answered, after}
+use Rattle.script_machine.specs.Frame.{Found, next_due, without_timer, still_fits, timer_ended, end_due, timers_ended, edges, edge_value, recorded, edges_of, edge_noted, edge_fired, edge_view, edge_one, edges_passed, passes_go_on, passes, at_clock, numbered, frame}
+use Rattle.script_machine.specs.Line.{started, key_name, key_down, reset, clicked, with_answer, answered, after}
 use Rattle.script_machine.specs.Looks.{goes_on, own, looks_by, on_sprite, effect_set, effect_named, spoken, shown_bubble, timed_bubble, with_costume, with_backdrop, with_words, switched_to, backdrop_switched, backdrop_and_wait, looks_row}
 use Rattle.script_machine.specs.Motion.{motion_row}
-use Rattle.script_machine.specs.Outcome.{Outcome, Goes, Full, TooLong, Spent, IfGoes, then_do, with_number, with_room}
+use Rattle.script_machine.specs.Outcome.{Outcome, Goes, Full, TooLong, Spent, IfGoes, then_do, with_number}
 use Rattle.script_machine.specs.Parts.{LooksParts, Scene, bubble_set, bubble_updated}
-use Rattle.script_machine.specs.Pending.{Item, Do, Held, Returned, Branch, Again, Back, Position, gone, settle, params_in}
+use Rattle.script_machine.specs.Pending.{Item, Do, Held, Returned, Branch, Again, Back, Position, settle, params_in}
 use Rattle.script_machine.specs.Places.{place, running}
 use Rattle.script_machine.specs.Program.{Program, Procedure, hat_block, procedure, stage_number}
 use Rattle.script_machine.specs.Script.{Statement, Command, command_of, inputs_of}
 use Rattle.script_machine.specs.ScriptText.{Good, clock_after}
 use Rattle.script_machine.specs.Slice.{go_on, is_late, counted_after, slice_goes_on, slice_by, executing, most_executions, turn_of, turn_by, turn, woken, Passed, visit, next_place, pass_on, pass, most_slices, without_done}
 use Rattle.script_machine.specs.Starting.{Pair, starts, start_all}
-use Rattle.script_machine.specs.Step.{Applied, row_by, row, applied, with_motion, with_data, position, opens_level, Moment, moved, moved_with_room, after_start, others_stopped, clone_deleted, cloned, cloned_unless, deleted_if, act, view_of, execute, execute_first, step_by, step}
-use Rattle.script_machine.specs.Stopping.{scene_of, with_scene, bubble_emptied, first_taken, is_first_of, without_questions, questions_dropped, is_clone, disposed, all_stopped, clone_added, has_no_room}
+use Rattle.script_machine.specs.Step.{Applied, row_by, row, applied, with_motion, with_data, position, opens_level, Moment, moved, moved_with_room, others_stopped, clone_deleted, cloned, cloned_unless, deleted_if, act, view_of, execute, execute_first, step_by, step}
+use Rattle.script_machine.specs.Stopping.{scene_of, bubble_emptied, first_taken, is_first_of, without_questions, questions_dropped, is_clone, disposed, clone_added, has_no_room}
 use Rattle.script_machine.specs.Stores.{live, instance_at, is_on_stage, elapsed, less}
-use Rattle.script_machine.specs.Tasks.{Task, tasks, levels, listed, Begun, begin_pairs, begin, resumed}
+use Rattle.script_machine.specs.Tasks.{Task, tasks, listed, Begun, begin_pairs, begin}
 use Rattle.script_machine.specs.Texts.{bubble_text}
 use Rattle.script_machine.specs.Threads.{Listed, Params}
 use Rattle.script_machine.specs.View.{Row, number_at, text_at, value_at, field_at}

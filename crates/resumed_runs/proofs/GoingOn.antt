@@ -1,9 +1,9 @@
 -- Lines behind others.
-use Rattle.std.proofs.Common.{◌≡◌, ℕ, zero, ◌+◌, List, [], ◌∷◌, ◌++◌, length, refl, sym, ap, ◌∙◌, subst, append_assoc, arith}
+use Rattle.std.proofs.Common.{◌≡◌, ℕ, zero, ◌+◌, List, [], ◌∷◌, ◌++◌, length, sym, ap, ◌∙◌, append_assoc, arith}
 use Rattle.script_machine.specs.declared.lines.Line.{Line}
 use Rattle.script_machine.specs.Line.{after}
 use Rattle.script_machine.specs.Outcome.{Outcome, Goes, Full, TooLong, Spent}
-use Rattle.script_machine.specs.Output.{Ending, Whole, Output, ends, in_front, written, played_line, played_reading, played}
+use Rattle.script_machine.specs.Output.{Whole, Output, ends, in_front, written, played_line, played_reading, played}
 use Rattle.script_machine.specs.Program.{Program}
 use Rattle.script_machine.specs.ScriptText.{Reading, Good, Refused, reading_of, clock_after}
 use Rattle.script_machine.specs.Tasks.{Task}

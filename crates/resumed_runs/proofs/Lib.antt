@@ -4,3 +4,4 @@ pub mod GoingOn
 pub mod Redraw
 pub mod Clock
 pub mod Readings
+pub mod Whole

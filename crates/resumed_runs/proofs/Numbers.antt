@@ -1,5 +1,5 @@
 -- What the number of a line is told by.
-use Rattle.std.proofs.Common.{◌≡◌, ℕ, ◌+◌, ◌*◌, ◌^◌, ◌==◌, ◌&&◌, Bool, true, false, if◌then◌else◌, List, [], ◌∷◌, Option, Some, None, refl, sym, ap, ◌∙◌, subst, length, arith}
+use Rattle.std.proofs.Common.{◌≡◌, ℕ, ◌+◌, ◌^◌, ◌==◌, ◌&&◌, Bool, true, false, if◌then◌else◌, List, [], ◌∷◌, Option, Some, None, refl, ap, ◌∙◌, length, arith}
 use Rattle.std.specs.Prelude.{ℤ, pos, neg_ℤ, nat_lt, nat_le, bytes_eq, codes}
 use Rattle.std.specs.Str.{is_utf8}
 use Rattle.scratch_values.specs.Longest.{longest}

@@ -1,5 +1,5 @@
 -- The clock of the last world is the last clock reading of the lines.
-use Rattle.std.proofs.Common.{◌≡◌, ℕ, ◌+◌, List, [], ◌∷◌, refl, sym, ap, ◌∙◌, subst}
+use Rattle.std.proofs.Common.{◌≡◌, ℕ, ◌+◌, List, [], ◌∷◌, refl, sym, ap, ◌∙◌}
 use Rattle.script_machine.specs.declared.lines.Line.{Line}
 use Rattle.script_machine.specs.Line.{after}
 use Rattle.script_machine.specs.Outcome.{Outcome, Goes, Full, TooLong, Spent, IfGoes}

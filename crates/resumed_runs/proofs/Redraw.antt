@@ -1,5 +1,5 @@
 -- A redraw request is carried along between frames, and a frame clears it before it is read.
-use Rattle.std.proofs.Common.{◌≡◌, ℕ, zero, suc, ◌+◌, ◌&&◌, not, Bool, true, false, if◌then◌else◌, List, [], ◌∷◌, ◌++◌, length, filter, Option, Some, None, refl, sym, ap, ◌∙◌, subst}
+use Rattle.std.proofs.Common.{◌≡◌, ℕ, zero, suc, ◌+◌, ◌&&◌, not, Bool, true, false, if◌then◌else◌, List, [], ◌∷◌, ◌++◌, length, Option, Some, None, refl, sym, ap, ◌∙◌, subst}
 use Rattle.std.specs.Prelude.{codes, slice_get}
 use Rattle.script_machine.specs.declared.devices.BubbleTimer.{BubbleTimer}
 use Rattle.script_machine.specs.declared.devices.Key.{Key}
@@ -15,12 +15,12 @@ use Rattle.script_machine.specs.Frame.{Found, next_due, without_timer, still_fit
 use Rattle.script_machine.specs.FrameText.{frame_text}
 use Rattle.script_machine.specs.Line.{started, key_name, with_key, with_keys, key_down, reset, clicked, with_answer, answered, after}
 use Rattle.script_machine.specs.Outcome.{Outcome, Goes, Full, TooLong, Spent, then_do}
-use Rattle.script_machine.specs.Output.{Ending, Whole, BadLine, Limited, Output, ends, in_front, written, limited, played_line, played_reading, played}
+use Rattle.script_machine.specs.Output.{Ending, Whole, BadLine, Limited, Output, ends, written, played_line, played_reading, played}
 use Rattle.script_machine.specs.Program.{Program, hat_block}
 use Rattle.script_machine.specs.Script.{inputs_of}
 use Rattle.script_machine.specs.ScriptText.{Reading, Good, Refused, reading_of, clock_after}
 use Rattle.script_machine.specs.Starting.{Crowd, Pair, starts, start_all}
-use Rattle.script_machine.specs.Stopping.{scene_of, with_scene, bubble_emptied, first_taken, all_stopped}
+use Rattle.script_machine.specs.Stopping.{scene_of, with_scene, bubble_emptied, first_taken}
 use Rattle.script_machine.specs.Stores.{live}
 use Rattle.script_machine.specs.Tasks.{Task, tasks, begun, begin_pairs, resumed}
 use Rattle.script_machine.specs.View.{number_at}

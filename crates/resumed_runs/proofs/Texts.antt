@@ -1,6 +1,5 @@
 -- The lines of two texts together.
 use Rattle.std.proofs.Common.{◌≡◌, ℕ, ◌==◌, Bool, true, false, if◌then◌else◌, List, [], ◌∷◌, ◌++◌, refl, sym, ap, ◌∙◌, subst}
-use Rattle.std.proofs.lemmas.Bool.Decides.{nat_tests}
 use Rattle.script_machine.specs.ScriptText.{with_byte, lines_of}
 use Rattle.resumed_runs.specs.Parts.{EndsALine}
 

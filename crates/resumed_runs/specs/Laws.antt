@@ -17,7 +17,7 @@ LinesGoOn =
     (p : Program) (n last : ℕ) (w v : World Task) (xs : List (List ℕ)) (lines more : List (List ℕ)) → played p n last w lines ≡ ends xs (Whole v)
     → played p n last w (lines ++ more) ≡ in_front xs (played p (n + length lines) (clock_behind n last lines) v more)
 
--- the number of the first line is told by refused lines alone
+-- where k more lines stand in front, refused lines have other numbers, and nothing else differs
 abbrev pub NumbersMove : Type 0
 NumbersMove = (p : Program) (k n last : ℕ) (w : World Task) (lines : List (List ℕ)) → played p (k + n) last w lines ≡ moved_on k (played p n last w lines)
 
@@ -39,13 +39,11 @@ abbrev pub PartsAreWhole : Type 0
 PartsAreWhole =
     (p : Program) (n last : ℕ) (w v u : World Task) (xs : List (List ℕ)) (a b : List ℕ) → 1 ≤ n → EndsALine a
     → played p n last w (lines_of a) ≡ ends xs (Whole v) → AlikeButRedraw v u
-    → AreAlike (played p n last w (lines_of (a ++ b)))
-        (in_front xs (moved_on (n - 1 + length (lines_of a)) (played p 1 (clock_behind n last (lines_of a)) u (lines_of b))))
+    → AreAlike (played p n last w (lines_of (a ++ b))) (in_front xs (moved_on (n - 1 + length (lines_of a)) (played p 1 (clock_behind n last (lines_of a)) u (lines_of b))))
 
 -- the same where the clock of each world is taken for the last reading in front of it
 abbrev pub WorldsGoOn : Type 0
 WorldsGoOn =
     (p : Program) (n : ℕ) (w v u : World Task) (xs : List (List ℕ)) (a b : List ℕ) → 1 ≤ n → EndsALine a
     → played p n w.devices.clock w (lines_of a) ≡ ends xs (Whole v) → AlikeButRedraw v u
-    → AreAlike (played p n w.devices.clock w (lines_of (a ++ b)))
-        (in_front xs (moved_on (n - 1 + length (lines_of a)) (played p 1 u.devices.clock u (lines_of b))))
+    → AreAlike (played p n w.devices.clock w (lines_of (a ++ b))) (in_front xs (moved_on (n - 1 + length (lines_of a)) (played p 1 u.devices.clock u (lines_of b))))

@@ -12,7 +12,7 @@ pub fn lines_go_on_from_the_last_world()
     ensures { LinesGoOn }
 {}
 
-/// The number of the first line is told by refused lines alone.
+/// Where more lines stand in front, refused lines have other numbers, and nothing else differs.
 pub fn numbers_are_told_by_refused_lines_alone()
     ensures { NumbersMove }
 {}
