@@ -150,22 +150,6 @@ module _ (laws : RunLaws) (one : OneAnswer) (form : ResumeForm) (file saved scri
   resume_resumable held (TooLarge which limit) found kept scripted ranges = tt
   resume_resumable held NoMemory found kept scripted ranges = tt
 
--- Where nothing was saved
-
-pub not_done_again : (held : Option Files) (command : Command) (status : Status) → (status ≡ Done → ⊥) → Resumable held command status
-not_done_again held (play form) Done n = absurd (n refl)
-not_done_again held (resume form) Done n = absurd (n refl)
-not_done_again held (check project) Done n = tt
-not_done_again held command Usage n = tt
-not_done_again held command ReadFault n = tt
-not_done_again held command WriteFault n = tt
-not_done_again held command (BadProject r) n = tt
-not_done_again held command (BadSave r) n = tt
-not_done_again held command (BadScript r) n = tt
-not_done_again held command (Limit l) n = tt
-not_done_again held command (TooLarge which limit) n = tt
-not_done_again held command NoMemory n = tt
-
 -- what a run that was saved is in, by the status
 pub in_range : (digest : List ℕ) (seed : ℕ) (name : List ℕ) (w : World Task) (status : Status) → IsRun IsTask (snapshot digest seed w) → SavesInRange digest seed (Some name) (Whole w) status
 in_range digest seed name w Done h = h

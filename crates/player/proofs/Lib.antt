@@ -2,6 +2,7 @@ pub mod Parsed
 pub mod Programs
 pub mod Outputs
 pub mod Turns
+pub mod ThreeCalls
 pub mod Again
 pub mod Calls
 pub mod Saved

@@ -1,4 +1,5 @@
 pub mod WholeNumbers
+pub mod Laws
 pub mod Limits
 pub mod Command
 pub mod Promise

@@ -4,6 +4,7 @@
 mod command;
 mod counts;
 mod fetching;
+mod laws;
 mod lines;
 mod saving;
 mod status;

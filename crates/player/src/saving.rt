@@ -1,6 +1,7 @@
 //! Playing a run to the end of its script, and saving it.
 
-ghost use Rattle.std.specs.Prelude.{◌≡◌, ◌≤◌, [], length, IfOk, Some};
+ghost use Rattle.std.specs.Prelude.{◌≡◌, ◌<◌, ◌≤◌, [], length, IfOk, Some};
+ghost use Rattle.std.specs.List.{All};
 ghost use Rattle.sv_channels.specs.Counts.{next_count, Rose, NoneRose};
 ghost use Rattle.script_machine.specs.Output.{Whole, ends, played};
 ghost use Rattle.script_machine.specs.ScriptText.{lines_of};
@@ -45,6 +46,20 @@ pub(crate) fn runs_are_told_again()
     the_text_of_a_run_is_accepted();
     the_world_of_a_run_is_told();
     an_accepted_saved_run_tells_a_reached_world();
+}
+
+// What the type of bytes says.
+fn are_bytes(bytes: &[u8])
+    ensures { All (λ byte. byte < 256) bytes.now }
+{
+}
+
+// What the type of a digest says: it has 32 bytes.
+pub(crate) fn has_its_bytes(digest: [u8; 32])
+    ensures size { length digest ≡ 32 }
+    ensures bytes { All (λ byte. byte < 256) digest }
+{
+    are_bytes(&digest);
 }
 
 // The text of a saved run.

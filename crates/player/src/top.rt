@@ -9,7 +9,7 @@ ghost use Rattle.player.specs.Stages.{PlayedTo, PlayedSteadily};
 use crate::command::{Command, command_of};
 use crate::counts::{Counts, accepted_line};
 use crate::fetching::{count, fetch, load_project, load_saved};
-use crate::saving::{Origin, play_first, play_on, runs_are_told_again};
+use crate::saving::{Origin, has_its_bytes, play_first, play_on, runs_are_told_again};
 use crate::status::{Status, Which};
 use saved_rules::one_answer_at_most;
 use sha2::{Digest, Sha256};
@@ -54,6 +54,7 @@ fn run<H: Shelf, K: Sink>(
         Err(status) => return status,
     };
     let digest = Sha256::digest(&file);
+    has_its_bytes(digest);
     let origin = Origin { digest, seed };
     let script = match fetch(alloc, shelf, script, Which::Script, SCRIPT_LIMIT) {
         Ok(bytes) => bytes,
@@ -95,6 +96,7 @@ fn resume<H: Shelf, K: Sink>(
         Err(status) => return status,
     };
     let digest = Sha256::digest(&file);
+    has_its_bytes(digest);
     let saved = match fetch(alloc, shelf, saved, Which::Saved, SAVED_LIMIT) {
         Ok(bytes) => bytes,
         Err(status) => return status,

@@ -40,4 +40,7 @@ pub returns-in-Done-clause-ranges : goal.returns-in-Done-clause-ranges
 returns-in-Done-clause-ranges g c = subst (λ ending. SavesInRange c.args.origin.digest c.args.origin.seed (name_to_save c.args.save.now) ending c.end.result) (sym c.in-Done.ensures.last) c.end.ensures.ranges
 
 pub returns-in_default-clause-ranges : goal.returns-in_default-clause-ranges
-returns-in_default-clause-ranges g c = unsaved_in_range _ _ _ _ c.play_lines.result c.in_default.not-Done
+returns-in_default-clause-ranges g c =
+    let w = world_of g.R.Rng.stream c.args.project.now c.args.run.now in
+    let run = played (program_of c.args.project.now) 1 c.args.run.now.state.devices.clock w (lines_of c.args.script.now) in
+    unsaved_in_range c.args.origin.digest c.args.origin.seed (name_to_save c.args.save.now) run.ending c.play_lines.result c.in_default.not-Done

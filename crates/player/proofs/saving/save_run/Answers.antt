@@ -37,7 +37,7 @@ returns-in-Err-TooLarge-clause-ends g c =
     (ends_long name c.in-Err-TooLarge.length s k l c.tell_limit.result c.tell_limit.ensures.wrote c.tell_limit.ensures.ends c.tell_limit.ensures.faults c.tell_limit.ensures.steady c.tell_limit.ensures.writes))
 
 pub returns-in-Ok-clause-ranges : goal.returns-in-Ok-clause-ranges
-returns-in-Ok-clause-ranges g c = in_range _ _ _ _ c.put_text.result c.in-Ok.ensures.ranges
+returns-in-Ok-clause-ranges g c = in_range c.args.origin.digest c.args.origin.seed c.args.save.now (world_of g.R.Rng.stream c.args.project.now c.args.run.now) c.put_text.result c.in-Ok.ensures.ranges
 
 pub returns-in-Err-TooLarge-clause-ranges : goal.returns-in-Err-TooLarge-clause-ranges
-returns-in-Err-TooLarge-clause-ranges g c = unsaved_in_range _ _ _ _ c.tell_limit.result (long_not_done _ _ c.tell_limit.ensures.ends)
+returns-in-Err-TooLarge-clause-ranges g c = unsaved_in_range c.args.origin.digest c.args.origin.seed (Some c.args.save.now) (Whole (world_of g.R.Rng.stream c.args.project.now c.args.run.now)) c.tell_limit.result (long_not_done _ c.tell_limit.result c.tell_limit.ensures.ends)

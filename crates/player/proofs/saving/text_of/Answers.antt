@@ -1,4 +1,5 @@
 use Rattle.std.proofs.Common.{refl, subst, ◌∙◌, ap}
+use Rattle.std.proofs.lemmas.Result.{IfOk-weaker}
 use Rattle.script_words.specs.Counting.{drawn_of}
 use Rattle.saved_text.specs.Saving.{IsSaved, longest}
 use Rattle.run_save.proofs.SavedRun.{is_text_of_run, ranges_of_run}

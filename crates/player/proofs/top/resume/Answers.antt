@@ -14,8 +14,10 @@ use Rattle.sequencer.specs.declared.run.Run.{Run}
 use Rattle.player.specs.Limits.{project_limit, saved_limit, script_limit}
 use Rattle.player.specs.Command.{ResumeForm, name_to_save}
 use Rattle.player.specs.Promise.{Outcome, Bases, Loads, PutFailed, AnswerCause, Wrote, Writes, Shelved, IsUnshelved, all_of, text_from}
+use Rattle.player.specs.Saving.{SavesInRange}
 use Rattle.player.specs.Stages.{Fetched, Resumed}
 use Rattle.player.specs.declared.status.Which.TheVariants as which
+use Rattle.player.proofs.Again.{resume_resumable}
 use Rattle.player.proofs.Calls.{fetched_file, all_ending, is_fetched, is_loaded, refused_cause, unfetched_wrote, load_calls, script_calls, played_cause, played_calls}
 use Rattle.player.proofs.Ends.{none_rose_behind, put_failed_before, fault_cause, silent_cause, no_usage, writes_cause, shelved_cause, unshelved_cause, hides_nothing, steady_behind}
 use Rattle.player.proofs.Resumes.{always_resumed, at_basis, at_saved, at_continuing, at_continued, at_resumed_end, after_basis, after_saved, basis_ending, basis_reading, ready_ending, rejected_cause, resumed_calls, resumed_not_done, resumed_script_cause, saved_calls, saved_cause, unfetched_fault, unfetched_honest, unfetched_not_done, unshelved_same}
@@ -372,3 +374,25 @@ returns-clause-shelved g c =
     let same = c.in-Ok-fetch-2.ensures.held ∙ c.in-Ok-fetch.ensures.held ∙ c.in-Ok.ensures.held in
     at_resumed_end c.one_answer_at_most.ensures.accepted P held form file b bytes t text c.digest-digest.result seed v project basis saved accepted script digest told.3 told.2
     (subst (λ h. Shelved h (g.H.Shelf.held c.play_on.new.shelf) put_failed save (all_of save (text_from c.digest-digest.result seed) output) c.play_on.result) same (shelved_cause _ _ _ put_failed _ _ c.play_on.result before c.play_on.ensures.ends.shelf))
+
+-- what was saved is accepted again
+pub returns-clause-resumable : goal.returns-clause-resumable
+returns-clause-resumable g c =
+    let held = g.H.Shelf.held c.args.shelf.now in
+    let form : ResumeForm = record { project = c.args.project.now; saved = c.args.saved.now; script = c.args.script.now; save = name_to_save c.args.save.now } in
+    let file = c.deref.result.now in
+    let project = fetched_file held held form.project project_limit c.in-Ok.bytes.items file refl c.deref.ensures.value c.in-Ok.ensures.answer in
+    let b = basis_of c.in-Ok-load_project.project in
+    let digest = c.digest-digest.ensures ∙ ap sha256 (sym c.deref.ensures.value) in
+    let bytes = c.deref-2.result.now in
+    let saved = fetched_file _ held form.saved saved_limit c.in-Ok-fetch.bytes.items bytes c.in-Ok.ensures.held c.deref-2.ensures.value c.in-Ok-fetch.ensures.answer in
+    let text = c.deref-3.result.now in
+    let script = fetched_file _ held form.script script_limit c.in-Ok-fetch-2.bytes.items text (c.in-Ok-fetch.ensures.held ∙ c.in-Ok.ensures.held) c.deref-3.ensures.value c.in-Ok-fetch-2.ensures.answer in
+    let told = c.in-Ok-load_saved.ensures.told in
+    let t = told.0 in
+    let accepted = subst (λ d. IsAccepted b d bytes t) digest told.1 in
+    let v = world_of answers c.in-Ok-load_project.project c.in-Ok-load_saved.run'.0 in
+    let ranges = subst (λ seed. SavesInRange c.digest-digest.result seed form.save (played b.program 1 v.devices.clock v (lines_of text)).ending c.play_on.result) told.3 c.play_on.ensures.ranges in
+    resume_resumable c.runs_are_told_again.ensures c.one_answer_at_most.ensures.accepted form file bytes text c.digest-digest.result b t c.in-Ok-load_project.ensures.basis accepted (record { size = c.has_its_bytes.ensures.size; bytes = c.has_its_bytes.ensures.bytes }) digest
+    project.small saved.small script.small held c.play_on.result project.is saved.is script.is
+    (subst (λ w. SavesInRange c.digest-digest.result t.run.seed form.save (played b.program 1 w.devices.clock w (lines_of text)).ending c.play_on.result) told.2 ranges)

@@ -3,11 +3,13 @@ use Rattle.std.specs.declared.alloc.Global.{Global}
 use Rattle.sha2.specs.Sha256.{sha256}
 use Rattle.sv_channels.specs.Counts.{next_count, Rose}
 use Rattle.project_check.specs.Loaded.{program_of}
+use Rattle.saved_rules.specs.Basis.{basis_of}
 use Rattle.player.specs.Limits.{project_limit, script_limit}
 use Rattle.player.specs.Command.{Form, name_to_save}
 use Rattle.player.specs.Promise.{Outcome, Loads, PutFailed, AnswerCause, Wrote, Writes, Shelved, IsUnshelved, all_of, text_from, words_of, output_of}
 use Rattle.player.specs.Stages.{Fetched}
 use Rattle.player.specs.declared.status.Which.TheVariants as which
+use Rattle.player.proofs.Again.{play_resumable}
 use Rattle.player.proofs.Calls.{fetched_file, project_reading, after_load, always, at_load, at_accepted, at_end, all_ending, loaded_fetched, refused_cause, script_causes, unfetched_wrote, load_calls, script_calls, played_cause, played_calls}
 use Rattle.player.proofs.Ends.{none_rose_behind, put_failed_before, fault_cause, silent_cause, no_usage, writes_cause, shelved_cause, unshelved_cause, hides_nothing, steady_behind}
 use Rattle.player.proofs.top.run.Goals as goal
@@ -152,3 +154,15 @@ returns-clause-shelved g c =
     let same = c.in-Ok-fetch.ensures.held ∙ c.in-Ok.ensures.held in
     at_accepted Loads (after_load form) P held form.project file p (project_reading file) project c.in-Ok-load_project.ensures.program
     (at_end P held form file text c.digest-digest.result p (c.digest-digest.ensures ∙ ap sha256 (sym c.deref.ensures.value)) script (subst (λ h. Shelved h (g.H.Shelf.held c.play_first.new.shelf) put_failed save (all_of save (text_from c.digest-digest.result c.args.seed) (output_of p (words_of c.args.seed) text)) c.play_first.result) same (shelved_cause _ _ _ put_failed _ _ c.play_first.result before c.play_first.ensures.ends.shelf)))
+
+-- what was saved is accepted again
+pub returns-clause-resumable : goal.returns-clause-resumable
+returns-clause-resumable g c =
+    let held = g.H.Shelf.held c.args.shelf.now in
+    let form : Form = record { project = c.args.project.now; script = c.args.script.now; seed = c.args.seed; save = name_to_save c.args.save.now } in
+    let file = c.deref.result.now in
+    let text = c.deref-2.result.now in
+    let project = fetched_file held held form.project project_limit c.in-Ok.bytes.items file refl c.deref.ensures.value c.in-Ok.ensures.answer in
+    let script = fetched_file _ held form.script script_limit c.in-Ok-fetch.bytes.items text c.in-Ok.ensures.held c.deref-2.ensures.value c.in-Ok-fetch.ensures.answer in
+    play_resumable c.runs_are_told_again.ensures form file text c.digest-digest.result (basis_of c.in-Ok-load_project.project) c.in-Ok-load_project.ensures.basis (record { size = c.has_its_bytes.ensures.size; bytes = c.has_its_bytes.ensures.bytes }) (c.digest-digest.ensures ∙ ap sha256 (sym c.deref.ensures.value))
+    project.small script.small held c.play_first.result project.is script.is c.play_first.ensures.ranges
