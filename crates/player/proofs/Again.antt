@@ -87,7 +87,7 @@ module _ (laws : RunLaws) (form : Form) (file script digest : List ℕ) (b : Bas
       subst (SavesAgain b file form.seed) (sym same)
       (all_again laws b good_basis file (subst IsDigest digest_is is_digest) form.seed form.save (output_of b.program (words_of form.seed) script)
       (λ last e. laws.last b form.seed 1 (first_world b.program (words_of form.seed)) last (lines_of script) good_basis
-        (subst (λ x. IsReached b.program form.seed (first_world b.program x)) (first_words form.seed) (laws.first b form.seed good_basis)) e)
+      (subst (λ x. IsReached b.program form.seed (first_world b.program x)) (first_words form.seed) (laws.first b form.seed good_basis)) e)
       (subst (λ d. SavesInRange d form.seed form.save (output_of b.program (words_of form.seed) script).ending Done) digest_is ranges))
 
   pub play_resumable : (held : Option Files) (status : Status) → IfSome held (λ files. get files form.project ≡ Some file) → IfSome held (λ files. get files form.script ≡ Some script)

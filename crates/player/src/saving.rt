@@ -15,9 +15,9 @@ ghost use Rattle.player.specs.Limits.{script_limit};
 ghost use Rattle.player.specs.Promise.{all_of, output_of, put_or_told, text_from, words_of};
 ghost use Rattle.player.specs.Saving.{EndsAs, PutEnds, PutSteadily, RunLaws, SavesInRange, shelf_now, sink_now};
 
-use accepted_runs::an_accepted_saved_run_tells_a_reached_world;
 use crate::lines::{play_lines, tell_limit};
 use crate::status::{Limit, Status};
+use accepted_runs::an_accepted_saved_run_tells_a_reached_world;
 use legal_runs::{
     every_accepted_file_is_playable, the_first_world_is_reached, the_last_world_is_reached,
     the_text_of_a_run_is_accepted, the_world_of_a_run_is_told,
@@ -51,8 +51,7 @@ pub(crate) fn runs_are_told_again()
 // What the type of bytes says.
 fn are_bytes(bytes: &[u8])
     ensures { All (λ byte. byte < 256) bytes.now }
-{
-}
+{}
 
 // What the type of a digest says: it has 32 bytes.
 pub(crate) fn has_its_bytes(digest: [u8; 32])
