@@ -12,11 +12,12 @@ use Rattle.scratch_values.specs.Named.{item_named}
 use Rattle.scratch_values.specs.declared.value.Value.{Value}
 use Rattle.scratch_values.specs.declared.value.Value.TheVariants.{Number, Truth, Text}
 use Rattle.script_machine.specs.ScriptText.{key_of_rest}
+use Rattle.script_machine.specs.Threads.{most_turns}
 use Rattle.script_machine.specs.declared.threads.Count.{Count}
 use Rattle.script_machine.specs.declared.threads.Count.TheVariants.{Whole, Infinite}
 use Rattle.shapes.specs.Shapes.{found}
 use Rattle.legal_threads.specs.Lists.{Each, Rise, RiseAbove}
-use Rattle.legal_turns.specs.Within.{IsValueWithin, IsCountWithin, IsInstanceWithin, IsStoreWithin, AreParamsWithin, most_turns}
+use Rattle.legal_turns.specs.Within.{IsValueWithin, IsCountWithin, IsInstanceWithin, IsStoreWithin, AreParamsWithin}
 use Rattle.saved_rules.specs.Kept.{Kept, Nothing, Loop, Repeat, Wait, Glide, Started, Asked, Spoken, Call, SavedLevel, SavedThread}
 use Rattle.saved_rules.specs.Shapes.{whole, truth, text, num, num_words, millionths, value, each, items, member, part, row, sized, table, if_some}
 use Rattle.saved_rules.specs.InstanceShapes as instances

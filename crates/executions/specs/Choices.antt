@@ -23,6 +23,11 @@ chosen ControlIf a = Some (branch_if (truth_at (codes "CONDITION") a) false)
 chosen ControlIfElse a = Some (Branch (if truth_at (codes "CONDITION") a then 1 else 2) false)
 chosen op a = None
 
+-- some arguments make a block of this opcode choose this
+pub record IsChosen (op : Opcode) (control : Control) : Type 0 where
+  pub args : Arguments
+  pub is : chosen op args ≡ Some control
+
 abbrev pub control_of : Choice → Control
 control_of (Enter number is_loop) = Branch number is_loop
 control_of Pass = Next

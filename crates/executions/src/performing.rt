@@ -8,6 +8,7 @@ ghost use Rattle.cached_blocks.specs.Cached.{cached_blocks};
 ghost use Rattle.project_file.specs.Linked.{IsClosed, AreRanks};
 ghost use Rattle.scratch_values.specs.Args.{arguments};
 ghost use Rattle.scratch_values.specs.Held.{pair_of};
+ghost use Rattle.scratch_values.specs.Named.{Arguments};
 ghost use Rattle.script_machine.specs.Keeping.{control_fits};
 ghost use Rattle.script_machine.specs.Laws as laws;
 ghost use Rattle.script_machine.specs.Outcome.{Goes, StopIs};
@@ -17,13 +18,13 @@ ghost use Rattle.targets.specs.Live.{IsLive};
 ghost use Rattle.thread_frames.specs.Levels.{top_block};
 ghost use Rattle.thread_moves.specs.Standing.{is_ended as has_ended};
 ghost use Rattle.project_check.specs.Loaded.{tables_of, blocks_at, ranks_at, sheet_at};
-ghost use Rattle.executions.specs.Choices.{chosen};
+ghost use Rattle.executions.specs.Choices.{IsChosen, chosen};
 ghost use Rattle.executions.specs.Rows.{Acts, Enacts};
 ghost use Rattle.executions.specs.Runners.{IsRunner, IsRunnerAfter, after_runner, with_runner};
 ghost use Rattle.executions.specs.Seen.{seen};
 
 use crate::acting::is_own;
-use crate::choosing::{Choice, way_chosen};
+use crate::choosing::{Choice, way_chosen, way_chosen_by};
 use crate::moving::{enter, go_on};
 use crate::running::{Runner, give_back};
 use crate::state::State;
@@ -101,14 +102,13 @@ impl<R: Rng + Drop> State<R> {
 
     // A branch that the block of the runner chose is entered.
     #[inline]
-    fn enter_chosen(
+    pub(crate) fn enter_chosen(
         &mut self,
         project: &Project,
         slot: u64,
         runner: &mut Runner,
         id: BlockId,
         block: &CachedBlock,
-        args: &Args<'_>,
         number: u8,
         is_loop: bool,
         late: bool,
@@ -118,10 +118,10 @@ impl<R: Rng + Drop> State<R> {
         requires ranks { AreRanks (blocks_at runner.old.target project.now) (ranks_at runner.old.target project.now) }
         requires closed { IsClosed (blocks_at runner.old.target project.now) }
         requires block { slice_get (cached_blocks (sheet_at runner.old.target project.now)) id ≡ Some block.now }
-        requires chosen { chosen block.now.op args.now ≡ Some (Branch number is_loop) }
-        ensures ok { IfOk result (λ report. Enacts R.stream project.now slot id late args.entry.now (with_runner runner.old self.old) (λ o. o ≡ Goes (record { world = seen R.stream project.now (after_runner report runner.new self.new); report = report }))) }
+        requires chosen { IsChosen block.now.op (Branch number is_loop) }
+        ensures ok { IfOk result (λ report. (a : Arguments) → chosen block.now.op a ≡ Some (Branch number is_loop) → Enacts R.stream project.now slot id late a (with_runner runner.old self.old) (λ o. o ≡ Goes (record { world = seen R.stream project.now (after_runner report runner.new self.new); report = report }))) }
         ensures after { IfOk result (λ report. IsRunnerAfter project.now slot report runner.new self.new) }
-        ensures stop { Enacts R.stream project.now slot id late args.entry.now (with_runner runner.old self.old) (StopIs result) }
+        ensures stop { (a : Arguments) → chosen block.now.op a ≡ Some (Branch number is_loop) → Enacts R.stream project.now slot id late a (with_runner runner.old self.old) (StopIs result) }
     {
         let threads = &mut self.threads;
         enter(
@@ -137,14 +137,13 @@ impl<R: Rng + Drop> State<R> {
 
     // The runner goes on behind its block, which chose no branch.
     #[inline]
-    fn pass_chosen(
+    pub(crate) fn pass_chosen(
         &mut self,
         project: &Project,
         slot: u64,
         runner: &mut Runner,
         id: BlockId,
         block: &CachedBlock,
-        args: &Args<'_>,
         late: bool,
     ) -> Report
         requires runs { IsRunner project.now slot runner.old self.old }
@@ -152,8 +151,8 @@ impl<R: Rng + Drop> State<R> {
         requires ranks { AreRanks (blocks_at runner.old.target project.now) (ranks_at runner.old.target project.now) }
         requires closed { IsClosed (blocks_at runner.old.target project.now) }
         requires block { slice_get (cached_blocks (sheet_at runner.old.target project.now)) id ≡ Some block.now }
-        requires chosen { chosen block.now.op args.now ≡ Some Passes }
-        ensures goes { Enacts R.stream project.now slot id late args.entry.now (with_runner runner.old self.old) (λ o. o ≡ Goes (record { world = seen R.stream project.now (after_runner result runner.new self.new); report = result })) }
+        requires chosen { IsChosen block.now.op Passes }
+        ensures goes { (a : Arguments) → chosen block.now.op a ≡ Some Passes → Enacts R.stream project.now slot id late a (with_runner runner.old self.old) (λ o. o ≡ Goes (record { world = seen R.stream project.now (after_runner result runner.new self.new); report = result })) }
         ensures after { IsRunnerAfter project.now slot result runner.new self.new }
     {
         go_on(project, &mut self.threads, runner, id)
@@ -261,12 +260,68 @@ impl<R: Rng + Drop> State<R> {
         }
         match way_chosen(block.op, args) {
             Some(Choice::Enter { number, is_loop }) => self.enter_chosen(
-                project, slot, runner, id, block, args, number, is_loop, late,
+                project, slot, runner, id, block, number, is_loop, late,
             ),
-            Some(Choice::Pass) => {
-                Ok(self.pass_chosen(project, slot, runner, id, block, args, late))
-            }
+            Some(Choice::Pass) => { Ok(self.pass_chosen(project, slot, runner, id, block, late)) }
             None => self.enact_kept(alloc, project, slot, runner, id, block, args, late),
         }
+    }
+
+    // What a block with one input does that is not of data: a choice by the input alone needs no arguments.
+    #[inline(always)]
+    pub(crate) fn enact_by(
+        &mut self,
+        alloc: Global,
+        project: &Project,
+        slot: u64,
+        runner: &mut Runner,
+        id: BlockId,
+        block: &CachedBlock,
+        first: Arg<'_>,
+        late: bool,
+    ) -> Result<Report, Stop>
+        requires runs { IsRunner project.now slot runner.old self.old }
+        requires top { top_block runner.old.levels ≡ Some id }
+        requires held { runner.old.target < length (tables_of project.now) }
+        requires member { id < length (blocks_at runner.old.target project.now) }
+        requires block { slice_get (cached_blocks (sheet_at runner.old.target project.now)) id ≡ Some block.now }
+        ensures ok { IfOk result (λ report. Enacts R.stream project.now slot id late (arguments (pair_of first.entry ∷ []) block.now.fields) (with_runner runner.old self.old) (λ o. o ≡ Goes (record { world = seen R.stream project.now (after_runner report runner.new self.new); report = report }))) }
+        ensures after { IfOk result (λ report. IsRunnerAfter project.now slot report runner.new self.new) }
+        ensures stop { Enacts R.stream project.now slot id late (arguments (pair_of first.entry ∷ []) block.now.fields) (with_runner runner.old self.old) (StopIs result) }
+    {
+        let _rank = project.rank(runner.target, id);
+        let _closed = project.blocks(runner.target);
+        match way_chosen_by(block.op, &first) {
+            Some(Choice::Enter { number, is_loop }) => {
+                self.enter_chosen(project, slot, runner, id, block, number, is_loop, late)
+            }
+            Some(Choice::Pass) => Ok(self.pass_chosen(project, slot, runner, id, block, late)),
+            None => self.enact_one(alloc, project, slot, runner, id, block, first, late),
+        }
+    }
+
+    // The row of a block that is not of data and has one input, and what its control does.
+    #[inline(never)]
+    pub(crate) fn enact_one(
+        &mut self,
+        alloc: Global,
+        project: &Project,
+        slot: u64,
+        runner: &mut Runner,
+        id: BlockId,
+        block: &CachedBlock,
+        first: Arg<'_>,
+        late: bool,
+    ) -> Result<Report, Stop>
+        requires runs { IsRunner project.now slot runner.old self.old }
+        requires top { top_block runner.old.levels ≡ Some id }
+        requires held { runner.old.target < length (tables_of project.now) }
+        requires member { id < length (blocks_at runner.old.target project.now) }
+        ensures ok { IfOk result (λ report. Enacts R.stream project.now slot id late (arguments (pair_of first.entry ∷ []) block.now.fields) (with_runner runner.old self.old) (λ o. o ≡ Goes (record { world = seen R.stream project.now (after_runner report runner.new self.new); report = report }))) }
+        ensures after { IfOk result (λ report. IsRunnerAfter project.now slot report runner.new self.new) }
+        ensures stop { Enacts R.stream project.now slot id late (arguments (pair_of first.entry ∷ []) block.now.fields) (with_runner runner.old self.old) (StopIs result) }
+    {
+        let args = Args::one(block.fields.as_slice(), first);
+        self.enact(alloc, project, slot, runner, id, &args, late)
     }
 }

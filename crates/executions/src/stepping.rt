@@ -2,6 +2,7 @@
 
 ghost use Rattle.std.specs.Prelude.{◌≡◌, ◌<◌, length, slice_get, Some, IfOk};
 ghost use Rattle.opcode_table.specs.Kinds.{group};
+ghost use Rattle.opcode_table.specs.declared.opcode.Opcode.TheVariants.{ControlForever};
 ghost use Rattle.cached_blocks.specs.Cached.{cached_blocks};
 ghost use Rattle.script_machine.specs.Outcome.{Goes, StopIs};
 ghost use Rattle.script_machine.specs.Step as machine;
@@ -14,9 +15,8 @@ use crate::running::Runner;
 use crate::state::State;
 use cached_blocks::CachedBlock;
 use evaluate::{View, inputs, no_inputs, only_input};
-use opcode_table::{Group, group};
+use opcode_table::{Group, Opcode, group};
 use project_check::Project;
-use scratch_values::Args;
 use script_machine::{BlockId, InstanceId, Report, Serial, TargetId};
 use script_words::{Rng, Stop};
 use std::alloc::Global;
@@ -31,9 +31,47 @@ pub(crate) struct Next {
 }
 
 impl<R: Rng + Drop> State<R> {
-    // One execution of a block that has no input.
+    // One execution of a loop without end.
     #[inline(always)]
-    fn execute_none(
+    fn execute_forever(
+        &mut self,
+        project: &Project,
+        slot: u64,
+        runner: &mut Runner,
+        id: BlockId,
+        block: &CachedBlock,
+        late: bool,
+    ) -> Result<Report, Stop>
+        requires runs { IsRunner project.now slot runner.old self.old }
+        requires top { top_block runner.old.levels ≡ Some id }
+        requires held { runner.old.target < length (tables_of project.now) }
+        requires member { id < length (blocks_at runner.old.target project.now) }
+        requires block { slice_get (cached_blocks (sheet_at runner.old.target project.now)) id ≡ Some block.now }
+        requires inputs { length block.now.inputs ≡ 0 }
+        requires op { block.now.op ≡ ControlForever }
+        ensures ok { IfOk result (λ report. machine.step (program_of project.now) slot late (seen R.stream project.now (with_runner runner.old self.old)) ≡ Goes (record { world = seen R.stream project.now (after_runner report runner.new self.new); report = report })) }
+        ensures after { IfOk result (λ report. IsRunnerAfter project.now slot report runner.new self.new) }
+        ensures stop { StopIs result (machine.step (program_of project.now) slot late (seen R.stream project.now (with_runner runner.old self.old))) }
+    {
+        let _rank = project.rank(runner.target, id);
+        let _closed = project.blocks(runner.target);
+        let params = runner.levels.params();
+        let view = View {
+            project,
+            targets: &self.targets,
+            variables: &self.variables,
+            devices: &self.devices,
+            here: runner.here,
+            target: runner.target,
+            params,
+        };
+        let _none = no_inputs(&view, id);
+        self.enter_chosen(project, slot, runner, id, block, 1, true, late)
+    }
+
+    // One execution of a block that has no input, whatever the block.
+    #[inline(never)]
+    fn execute_plain(
         &mut self,
         alloc: Global,
         project: &Project,
@@ -67,6 +105,35 @@ impl<R: Rng + Drop> State<R> {
         };
         let args = no_inputs(&view, id);
         self.enact(alloc, project, slot, runner, id, &args, late)
+    }
+
+    // One execution of a block that has no input.
+    #[inline(always)]
+    fn execute_none(
+        &mut self,
+        alloc: Global,
+        project: &Project,
+        slot: u64,
+        runner: &mut Runner,
+        id: BlockId,
+        block: &CachedBlock,
+        late: bool,
+    ) -> Result<Report, Stop>
+        requires runs { IsRunner project.now slot runner.old self.old }
+        requires top { top_block runner.old.levels ≡ Some id }
+        requires held { runner.old.target < length (tables_of project.now) }
+        requires member { id < length (blocks_at runner.old.target project.now) }
+        requires block { slice_get (cached_blocks (sheet_at runner.old.target project.now)) id ≡ Some block.now }
+        requires inputs { length block.now.inputs ≡ 0 }
+        ensures ok { IfOk result (λ report. machine.step (program_of project.now) slot late (seen R.stream project.now (with_runner runner.old self.old)) ≡ Goes (record { world = seen R.stream project.now (after_runner report runner.new self.new); report = report })) }
+        ensures after { IfOk result (λ report. IsRunnerAfter project.now slot report runner.new self.new) }
+        ensures stop { StopIs result (machine.step (program_of project.now) slot late (seen R.stream project.now (with_runner runner.old self.old))) }
+    {
+        if matches!(block.op, Opcode::ControlForever) {
+            self.execute_forever(project, slot, runner, id, block, late)
+        } else {
+            self.execute_plain(alloc, project, slot, runner, id, block, late)
+        }
     }
 
     // One execution of a block that has one input.
@@ -110,8 +177,7 @@ impl<R: Rng + Drop> State<R> {
         if matches!(group(block.op), Group::Data) {
             self.enact_data_one(project, slot, runner, id, block, first, late)
         } else {
-            let args = Args::one(block.fields.as_slice(), first);
-            self.enact(alloc, project, slot, runner, id, &args, late)
+            self.enact_by(alloc, project, slot, runner, id, block, first, late)
         }
     }
 

@@ -7,12 +7,12 @@ use Rattle.script_machine.specs.Outcome.{Goes}
 use Rattle.script_machine.specs.Program.{Program}
 use Rattle.script_machine.specs.ScriptText.{Good, reading_of}
 use Rattle.script_machine.specs.Tasks.{Task}
+use Rattle.script_machine.specs.Words.{Words}
 use Rattle.script_machine.specs.World.{World}
 use Rattle.legal_threads.specs.GoodLines.{IsGoodLine}
 use Rattle.legal_threads.specs.Playable.{IsPlayable}
 use Rattle.legal_threads.specs.Scripts.{IsProgram}
 use Rattle.legal_threads.specs.Worlds.{IsLegalWorld}
-use Rattle.script_machine.specs.Words.{Words}
 use Rattle.legal_devices.specs.Devices.{IsLegalDesk}
 
 -- the first world of a run has legal devices

@@ -6,9 +6,9 @@ use Rattle.script_machine.specs.Line.{after}
 use Rattle.script_machine.specs.Outcome.{Goes}
 use Rattle.script_machine.specs.Program.{Program}
 use Rattle.script_machine.specs.Tasks.{Task}
+use Rattle.script_machine.specs.Words.{Words}
 use Rattle.script_machine.specs.World.{World}
 use Rattle.legal_threads.specs.Worlds.{IsLegalWorld}
-use Rattle.script_machine.specs.Words.{Words}
 use Rattle.legal_turns.specs.Within.{IsProgramWithin, IsWorldWithin}
 
 -- the first world of a run has its numbers within the limit

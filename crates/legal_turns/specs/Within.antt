@@ -1,5 +1,5 @@
 -- The numbers that a run computes with are within the limit of numbers, and so are the turns that its loops have left.
-use Rattle.std.specs.Prelude.{ℕ, ◌≤◌, unsigned_abs, IfSome}
+use Rattle.std.specs.Prelude.{◌≤◌, unsigned_abs, IfSome}
 use Rattle.scratch_number.specs.Number.{IsWithin}
 use Rattle.scratch_values.specs.declared.value.Value.{Value}
 use Rattle.scratch_values.specs.declared.value.Value.TheVariants.{Number, Truth, Text}
@@ -14,7 +14,7 @@ use Rattle.script_machine.specs.Pending.{Item, Do, Held, Returned, Branch, Again
 use Rattle.script_machine.specs.Program.{Program, scripts_at}
 use Rattle.script_machine.specs.Script.{Expression, Constant, Variable, Contents, Operator, Expressions, NoInput, AndInput, Statement, inputs_of}
 use Rattle.script_machine.specs.Tasks.{Task}
-use Rattle.script_machine.specs.Threads.{Params}
+use Rattle.script_machine.specs.Threads.{Params, most_turns}
 use Rattle.script_machine.specs.World.{World}
 use Rattle.legal_threads.specs.Lists.{Each}
 use Rattle.legal_threads.specs.Statements.{Everywhere}
@@ -24,10 +24,7 @@ IsValueWithin (Number n) = IsWithin n
 IsValueWithin (Truth b) = Unit {0}
 IsValueWithin (Text t) = Unit {0}
 
--- the turns of a number of the profile: 9·10^12 at most
-abbrev pub most_turns : ℕ
-most_turns = 9000000000000
-
+-- the turns of a number of the profile
 abbrev pub IsCountWithin : Count → Type 0
 IsCountWithin (Whole turns) = unsigned_abs turns ≤ most_turns
 IsCountWithin Infinite = Unit {0}

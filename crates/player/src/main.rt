@@ -11,6 +11,8 @@ mod status;
 mod top;
 mod whole_numbers;
 
+ghost use Rattle.std.specs.Prelude.{◌≡◌, ◌⊎◌, IfErr, IfOk};
+
 use itoa::Buffer;
 use status::{Status, exit_number, told};
 use std::alloc::AllocError;
@@ -22,7 +24,9 @@ use sv_channels::{FileShelf, StdSink};
 use top::play;
 
 // The command's words without the program's name. Words that are not UTF-8 are no form.
-fn words_of<R: Env + AllocGlobal>(rt: &R) -> Result<Vec<String>, Status> {
+fn words_of<R: Env + AllocGlobal>(rt: &R) -> Result<Vec<String>, Status>
+    ensures usage { IfErr result (λ status. (status ≡ Status.Usage) ⊎ (status ≡ Status.NoMemory)) }
+{
     let arguments = match env::args(rt) {
         Ok(arguments) => arguments,
         Err(error) => {
@@ -42,9 +46,10 @@ fn words_of<R: Env + AllocGlobal>(rt: &R) -> Result<Vec<String>, Status> {
 }
 
 // The real files and the standard output.
-fn edges_of(
-    rt: &HostRuntime,
-) -> Result<(FileShelf<HostRuntime>, StdSink<HostRuntime>), AllocError> {
+fn edges_of(rt: &HostRuntime) -> Result<(FileShelf<HostRuntime>, StdSink<HostRuntime>), AllocError>
+    ensures shelf { IfOk result (λ edges. edges.0 ≡ record { fetches = 0; puts = 0; calls = 0; wants = 0 }) }
+    ensures sink { IfOk result (λ edges. edges.1 ≡ record { faults = 0; calls = 0 }) }
+{
     Ok((FileShelf::new(rt.clone()?), StdSink::new(rt.clone()?)))
 }
 

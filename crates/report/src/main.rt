@@ -15,6 +15,8 @@ mod text;
 mod top;
 mod unknown;
 
+ghost use Rattle.std.specs.Prelude.{◌≡◌, ◌⊎◌, IfErr, IfOk};
+
 use status::{Status, exit_number, told};
 use std::alloc::AllocError;
 use std::env;
@@ -25,7 +27,9 @@ use sv_channels::{FileShelf, StdSink};
 use top::report;
 
 // The command's words without the program's name. Words that are not UTF-8 are no name.
-fn words_of<R: Env + AllocGlobal>(rt: &R) -> Result<Vec<String>, Status> {
+fn words_of<R: Env + AllocGlobal>(rt: &R) -> Result<Vec<String>, Status>
+    ensures usage { IfErr result (λ status. (status ≡ Status.Usage) ⊎ (status ≡ Status.NoMemory)) }
+{
     let arguments = match env::args(rt) {
         Ok(arguments) => arguments,
         Err(error) => {
@@ -45,9 +49,10 @@ fn words_of<R: Env + AllocGlobal>(rt: &R) -> Result<Vec<String>, Status> {
 }
 
 // The real files and the standard output.
-fn edges_of(
-    rt: &HostRuntime,
-) -> Result<(FileShelf<HostRuntime>, StdSink<HostRuntime>), AllocError> {
+fn edges_of(rt: &HostRuntime) -> Result<(FileShelf<HostRuntime>, StdSink<HostRuntime>), AllocError>
+    ensures shelf { IfOk result (λ edges. edges.0 ≡ record { fetches = 0; puts = 0; calls = 0; wants = 0 }) }
+    ensures sink { IfOk result (λ edges. edges.1 ≡ record { faults = 0; calls = 0 }) }
+{
     Ok((FileShelf::new(rt.clone()?), StdSink::new(rt.clone()?)))
 }
 

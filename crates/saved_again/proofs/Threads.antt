@@ -16,7 +16,7 @@ use Rattle.script_machine.specs.declared.threads.Status.{Status}
 use Rattle.script_machine.specs.declared.threads.Status.TheVariants.{Running, YieldTick, PromiseWait, Done}
 use Rattle.script_machine.specs.Pending.{Item, Do, Held, Returned, Branch, Again, Back}
 use Rattle.script_machine.specs.Tasks.{Task}
-use Rattle.script_machine.specs.Threads.{is_done}
+use Rattle.script_machine.specs.Threads.{is_done, most_turns}
 use Rattle.saved_text.specs.Contexts as contexts
 use Rattle.saved_text.specs.Ranges.{IsWhole, IsBlock, IsWait, IsGlide, IsContext, IsParam, AreParams, IsMarker, IsFirst, AreItems, IsTask}
 use Rattle.saved_text.specs.Rows as rows
@@ -30,7 +30,7 @@ use Rattle.saved_again.proofs.Parts.{num_read, value_read, each_same}
 
 -- what a block keeps is in range
 abbrev pub IsFew : Count → Type 0
-IsFew (Whole turns) = unsigned_abs turns ≤ shapes.most_turns
+IsFew (Whole turns) = unsigned_abs turns ≤ most_turns
 IsFew Infinite = Unit {0}
 
 abbrev pub IsKept : kept.Kept → Type 0
@@ -58,8 +58,8 @@ pub record IsSavedThread (t : kept.SavedThread) : Type 0 where
 -- Reading
 
 count_read : (at : List (List ℕ)) (c : Count) → IsFew c → shapes.count at (contexts.count c) ≡ Ok c
-count_read at (Whole (pos n)) h = rw (lt-ltb n (2 ^ 63) (omega arith), le-leb n shapes.most_turns h) refl
-count_read at (Whole (negsuc n)) h = rw (le-leb (unsigned_abs (negsuc n)) shapes.most_turns h) refl
+count_read at (Whole (pos n)) h = rw (lt-ltb n (2 ^ 63) (omega arith), le-leb n most_turns h) refl
+count_read at (Whole (negsuc n)) h = rw (le-leb (unsigned_abs (negsuc n)) most_turns h) refl
 count_read at Infinite h = refl
 
 param_read : (at : List (List ℕ)) (p : List ℕ × Value) → IsParam p → shapes.param at (contexts.param p) ≡ Ok p

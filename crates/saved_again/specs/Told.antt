@@ -1,5 +1,5 @@
 -- What a run has that can be told: beside what types say, what stands in order and what is in the range of the format.
-use Rattle.std.specs.Prelude.{◌≡◌, ◌≤◌, true, false, List, map, unsigned_abs}
+use Rattle.std.specs.Prelude.{◌≡◌, ◌≤◌, true, false, List, Some, map, unsigned_abs}
 use Rattle.std.specs.List.{All}
 use Rattle.script_machine.specs.declared.instance.Instance.{Instance}
 use Rattle.script_machine.specs.declared.threads.Context.{Context}
@@ -11,13 +11,11 @@ use Rattle.script_machine.specs.Pending.{Item, Held, Again}
 use Rattle.script_machine.specs.ScriptText.{key_of_rest}
 use Rattle.script_machine.specs.Stores.{store_at}
 use Rattle.script_machine.specs.Tasks.{Task}
-use Rattle.script_machine.specs.Threads.{is_done}
-use Rattle.std.specs.Prelude.{Some}
+use Rattle.script_machine.specs.Threads.{is_done, most_turns}
 use Rattle.saved_text.specs.Ranges.{IsRun, IsTask}
 use Rattle.saved_text.specs.Saved.{Snapshot}
 use Rattle.saved_rules.specs.InstanceShapes.{rises}
 use Rattle.saved_rules.specs.RunShapes.{is_digest, stores_in_order}
-use Rattle.saved_rules.specs.ThreadShapes.{most_turns}
 
 -- the store that is told of an instance
 abbrev pub store_told : List Store → Instance → Store

@@ -10,14 +10,11 @@ use Rattle.script_machine.specs.declared.threads.Count.{Count}
 use Rattle.script_machine.specs.declared.threads.Count.TheVariants.{Whole, Infinite}
 use Rattle.script_machine.specs.declared.threads.Status.{Status}
 use Rattle.script_machine.specs.declared.threads.Status.TheVariants.{Running, YieldTick, PromiseWait}
+use Rattle.script_machine.specs.Threads.{most_turns}
 use Rattle.shapes.specs.Places.{path}
 use Rattle.shapes.specs.Shapes.{Reader, found, ◌>>=◌}
 use Rattle.saved_rules.specs.Kept.{Kept, Nothing, Loop, Repeat, Wait, Glide, Started, Asked, Spoken, Call, SavedLevel, SavedThread}
 use Rattle.saved_rules.specs.Shapes.{whole, text, word, num, value, items, each, sized, row, part, table, member, if_some}
-
--- the most turns that a loop can have left: 9·10^12
-abbrev pub most_turns : ℕ
-most_turns = 9000000000000
 
 abbrev pub turns : ℤ → Option Count
 turns z = if nat_le (unsigned_abs z) most_turns then Some (Whole z) else None

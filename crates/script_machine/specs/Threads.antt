@@ -15,6 +15,10 @@ use Rattle.std.specs.Prelude.{ℕ, ◌==◌, List, [], ◌∷◌, find, option_t
 use Rattle.std.specs.List.{list_any}
 use Rattle.scratch_values.specs.declared.value.Value.{Value}
 
+-- the most turns that a loop can have left, of either sign: those of the largest number of the profile, 9·10^12
+abbrev pub most_turns : ℕ
+most_turns = 9000000000000
+
 -- the parameters of a called procedure by name
 abbrev pub Params : Type 0
 Params = List (List ℕ × Value)

@@ -133,6 +133,7 @@ impl Levels {
     pub fn restart(&mut self, first: Option<BlockId>) -> Result<(), AllocError>
         ensures ok { OnOk result (self.new ≡ new_level first false ∷ []) }
         ensures err { OnErr result (self.new ≡ self.old) }
+        ensures memory { OnErr result (self.old ≡ []) }
     {
         if self.bottom_first.is_empty() {
             self.bottom_first.push(Level::new(first, false))?;

@@ -176,6 +176,7 @@ impl Thread {
     ) -> Result<(), AllocError>
         ensures ok { OnOk result (self.new ≡ again serial target first self.old) }
         ensures err { OnErr result (self.new ≡ self.old) }
+        ensures memory { OnErr result (self.old.levels ≡ []) }
     {
         self.levels.restart(first)?;
         self.serial = serial;

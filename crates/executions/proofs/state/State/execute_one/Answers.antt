@@ -42,19 +42,19 @@ returns-then-matches-clause-stop g c =
 
 pub returns-else-matches-clause-ok : goal.returns-else-matches-clause-ok
 returns-else-matches-clause-ok g c =
-    one_ok c.enact.result _ _
-    (λ report acts. runner_executes g.R.Rng.stream c.args.project.now c.args.slot c.args.id c.args.late c.one-args.result c.args.runner.now c.args.self.now c.requires.runs c.requires.top c.rank-rank.ensures.ranks c.blocks-closed.ensures.closed _ c.params-near.ensures c.only_input.new.words
+    one_ok c.enact_by.result _ _
+    (λ report acts. runner_executes g.R.Rng.stream c.args.project.now c.args.slot c.args.id c.args.late (arguments (pair_of c.in-Ok.first ∷ []) c.args.block.now.fields) c.args.runner.now c.args.self.now c.requires.runs c.requires.top c.rank-rank.ensures.ranks c.blocks-closed.ensures.closed _ c.params-near.ensures c.only_input.new.words
     (λ s rest e. of_ok c.only_input.result _ c.in-Ok.first c.in-Ok.is c.only_input.ensures.ok s rest e
-    ∙ ap (λ a. Goes (record { value = a; words = seen_words g.R.Rng.stream c.only_input.new.words })) (sole_arguments c.in-Ok.first (sheets c.args.project.now c.args.runner.now.target) c.args.id c.args.block.now c.requires.block c.as_slice.result.now c.as_slice.ensures (c.one-args.result) c.one-args.ensures))
-    (λ o. o ≡ Goes (record { world = seen g.R.Rng.stream c.args.project.now (after_runner report c.enact.new.runner c.enact.new.self); report = report })) acts)
-    c.enact.ensures.ok
+    ∙ ap (λ a. Goes (record { value = a; words = seen_words g.R.Rng.stream c.only_input.new.words })) (sole_arguments c.in-Ok.first (sheets c.args.project.now c.args.runner.now.target) c.args.id c.args.block.now c.requires.block c.args.block.now.fields refl (arguments (pair_of c.in-Ok.first ∷ []) c.args.block.now.fields) refl))
+    (λ o. o ≡ Goes (record { world = seen g.R.Rng.stream c.args.project.now (after_runner report c.enact_by.new.runner c.enact_by.new.self); report = report })) acts)
+    c.enact_by.ensures.ok
 
 pub returns-else-matches-clause-stop : goal.returns-else-matches-clause-stop
 returns-else-matches-clause-stop g c =
-    runner_executes g.R.Rng.stream c.args.project.now c.args.slot c.args.id c.args.late c.one-args.result c.args.runner.now c.args.self.now c.requires.runs c.requires.top c.rank-rank.ensures.ranks c.blocks-closed.ensures.closed _ c.params-near.ensures c.only_input.new.words
+    runner_executes g.R.Rng.stream c.args.project.now c.args.slot c.args.id c.args.late (arguments (pair_of c.in-Ok.first ∷ []) c.args.block.now.fields) c.args.runner.now c.args.self.now c.requires.runs c.requires.top c.rank-rank.ensures.ranks c.blocks-closed.ensures.closed _ c.params-near.ensures c.only_input.new.words
     (λ s rest e. of_ok c.only_input.result _ c.in-Ok.first c.in-Ok.is c.only_input.ensures.ok s rest e
-    ∙ ap (λ a. Goes (record { value = a; words = seen_words g.R.Rng.stream c.only_input.new.words })) (sole_arguments c.in-Ok.first (sheets c.args.project.now c.args.runner.now.target) c.args.id c.args.block.now c.requires.block c.as_slice.result.now c.as_slice.ensures (c.one-args.result) c.one-args.ensures))
-    (StopIs c.enact.result) c.enact.ensures.stop
+    ∙ ap (λ a. Goes (record { value = a; words = seen_words g.R.Rng.stream c.only_input.new.words })) (sole_arguments c.in-Ok.first (sheets c.args.project.now c.args.runner.now.target) c.args.id c.args.block.now c.requires.block c.args.block.now.fields refl (arguments (pair_of c.in-Ok.first ∷ []) c.args.block.now.fields) refl))
+    (StopIs c.enact_by.result) c.enact_by.ensures.stop
 
 pub returns-in-Err-clause-stop : goal.returns-in-Err-clause-stop
 returns-in-Err-clause-stop g c =

@@ -6,7 +6,7 @@ use Rattle.executions.specs.Runners.{after_runner}
 use Rattle.executions.specs.Seen.{seen}
 use Rattle.executions.proofs.Enacting.{one_ok}
 use Rattle.executions.proofs.Rowing.{runner_executes}
-use Rattle.executions.proofs.state.State.execute_none.Goals as goal
+use Rattle.executions.proofs.state.State.execute_plain.Goals as goal
 
 pub returns-clause-ok : goal.returns-clause-ok
 returns-clause-ok g c =
