@@ -1,5 +1,5 @@
 -- The numbers that a run computes with are within the limit of numbers, and so are the turns that its loops have left.
-use Rattle.std.specs.Prelude.{◌≤◌, unsigned_abs, IfSome}
+use Rattle.std.specs.Prelude.{ℕ, ◌≤◌, unsigned_abs, IfSome}
 use Rattle.scratch_number.specs.Number.{IsWithin}
 use Rattle.scratch_values.specs.declared.value.Value.{Value}
 use Rattle.scratch_values.specs.declared.value.Value.TheVariants.{Number, Truth, Text}

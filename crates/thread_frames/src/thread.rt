@@ -1,6 +1,6 @@
 //! One thread.
 
-ghost use Rattle.std.specs.Prelude.{◌≡◌, IfOk, OnOk, OnErr};
+ghost use Rattle.std.specs.Prelude.{◌≡◌, [], IfOk, OnOk, OnErr};
 ghost use Rattle.std.specs.Borrow.{sem};
 ghost use Rattle.thread_frames.specs.Lending.{LendsLevels};
 ghost use Rattle.script_machine.specs.Threads.{is_done as is_done_by};
