@@ -6,6 +6,3 @@ mod inputs;
 
 pub use fields::{Place, field, held_at};
 pub use inputs::{number, text, truth, value};
-
-#[cfg(test)]
-mod tests;

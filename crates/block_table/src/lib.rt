@@ -20,6 +20,3 @@ mod table;
 pub use reading::build;
 pub use refusal::BlockRefusal;
 pub use table::{BlockTable, FileTable, read_table};
-
-#[cfg(test)]
-mod tests;

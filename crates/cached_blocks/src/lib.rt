@@ -12,6 +12,3 @@ mod making;
 pub use block::{CachedBlock, CachedBlocks, CachedFields, CachedInputs};
 pub use laws::{a_script_is_told, an_expression_is_told, links_fall};
 pub use making::cache_blocks;
-
-#[cfg(test)]
-mod tests;

@@ -11,6 +11,3 @@ mod stopping;
 mod waiting;
 
 pub use applying::apply;
-
-#[cfg(test)]
-mod tests;

@@ -9,6 +9,3 @@ mod places;
 mod variable_rows;
 
 pub use applying::{apply, apply_one};
-
-#[cfg(test)]
-mod tests;

@@ -11,6 +11,3 @@ pub use parts::DeviceParts;
 pub use script_machine::{BubbleTimer, BubbleTimers, Key, Keys, Question, Questions};
 pub use state::Devices;
 pub use timers::seconds;
-
-#[cfg(test)]
-mod tests;

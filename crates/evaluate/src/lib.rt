@@ -12,6 +12,3 @@ mod ways;
 pub use evaluating::inputs;
 pub use sole::{no_inputs, only_input};
 pub use view::View;
-
-#[cfg(test)]
-mod tests;

@@ -4,6 +4,3 @@
 mod framing;
 
 pub use framing::frame;
-
-#[cfg(test)]
-mod tests;

@@ -13,6 +13,3 @@ pub use edge_hats::{EdgeHat, EdgeList, edges};
 pub use firing::fire;
 pub use laws::every_hat_is_a_head;
 pub use starting::start;
-
-#[cfg(test)]
-mod tests;

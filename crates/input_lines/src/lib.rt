@@ -8,6 +8,3 @@ mod keys;
 mod lines;
 
 pub use lines::apply_line;
-
-#[cfg(test)]
-mod tests;

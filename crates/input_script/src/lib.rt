@@ -11,6 +11,3 @@ mod words;
 
 pub use script::Script;
 pub use script_machine::{Budget, Key, Line, LineRefusal};
-
-#[cfg(test)]
-mod tests;

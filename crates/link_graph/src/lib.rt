@@ -18,6 +18,3 @@ pub use graph::{Dangling, Graph};
 pub use laws::{ranks_rule_out_cycles, ranks_serve_a_part};
 pub use ranks::{Ranking, Ranks};
 pub use search::reach;
-
-#[cfg(test)]
-mod tests;

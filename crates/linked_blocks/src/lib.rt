@@ -18,6 +18,3 @@ mod testing;
 
 pub use block_links::BlockLinks;
 pub use testing::test_blocks;
-
-#[cfg(test)]
-mod tests;

@@ -4,6 +4,3 @@
 mod list_of;
 
 pub use list_of::ListOf;
-
-#[cfg(test)]
-mod tests;

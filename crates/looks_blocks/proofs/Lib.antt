@@ -1,7 +1,6 @@
 pub mod Choosing
 pub mod Instances
 pub mod Moved
-pub mod Once
 pub mod Rows
 pub mod Signs
 pub mod Stopping

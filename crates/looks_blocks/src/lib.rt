@@ -16,6 +16,3 @@ mod picking;
 mod sizes;
 
 pub use applying::apply;
-
-#[cfg(test)]
-mod tests;

@@ -11,6 +11,3 @@ mod steps;
 mod turns;
 
 pub use applying::apply;
-
-#[cfg(test)]
-mod tests;

@@ -11,6 +11,3 @@ mod reading;
 
 pub use prototype::{FilePrototype, FileValues};
 pub use reading::{read_call, read_prototype};
-
-#[cfg(test)]
-mod tests;

@@ -14,6 +14,3 @@ mod sort;
 mod target;
 
 pub use resolving::{ResolvedNames, resolve};
-
-#[cfg(test)]
-mod tests;

@@ -23,6 +23,3 @@ pub use names::{name, of_name};
 pub use opcode::Opcode;
 pub use parts::spec;
 pub use shape::{InputSpec, Role, Spec};
-
-#[cfg(test)]
-mod tests;

@@ -15,6 +15,3 @@ pub use list_contents::contents;
 pub use picking::{next_word, pick_random};
 pub use texts::{char_count, empty_text, has_text, joined, letter};
 pub use written::Written;
-
-#[cfg(test)]
-mod tests;

@@ -4,66 +4,83 @@ use crate::status::{Status, exit_number, status_text};
 use crate::top::play;
 use project_file::Refusal;
 use project_json::JsonRefusal;
-use std::alloc::{AllocError, Global};
+use std::alloc::Global;
 use std::process::Abort;
-use std::test::Fail;
-use sv_channels::{MemoryShelf, MemorySink, NamedBytes, Numbers, Pairs, SteadySink};
+use sv_channels::{MemoryShelf, MemorySink, NamedBytes, Numbers, Pairs, Shelf, Sink, SteadySink};
 
 // The base file up to the blocks of the stage.
-const BEFORE_STAGE: &str =
+static BEFORE_STAGE: &str =
     "{\"targets\":[{\"isStage\":true,\"name\":\"Stage\",\"variables\":{\"v\":[\"n\",0]},\"lists\":{\"k\":[\"l\",[]]},\"broadcasts\":{},\"blocks\":";
 
 // From there to the blocks of the sprite Cat.
-const BEFORE_CAT: &str =
+static BEFORE_CAT: &str =
     ",\"comments\":{},\"currentCostume\":0,\"costumes\":[{\"name\":\"b1\",\"dataFormat\":\"svg\",\"assetId\":\"0\",\"md5ext\":\"0.svg\",\"rotationCenterX\":240,\"rotationCenterY\":180}],\"sounds\":[{\"name\":\"pop\",\"assetId\":\"1\",\"dataFormat\":\"wav\",\"md5ext\":\"1.wav\"}],\"volume\":100,\"layerOrder\":0,\"tempo\":60},{\"isStage\":false,\"name\":\"Cat\",\"variables\":{},\"lists\":{},\"broadcasts\":{},\"blocks\":";
 
 // From there to the end.
-const AFTER_CAT: &str =
+static AFTER_CAT: &str =
     ",\"comments\":{},\"currentCostume\":0,\"costumes\":[{\"name\":\"c1\",\"dataFormat\":\"svg\",\"assetId\":\"2\",\"md5ext\":\"2.svg\"}],\"sounds\":[],\"volume\":100,\"layerOrder\":1,\"visible\":true,\"x\":0,\"y\":0,\"size\":100,\"direction\":90,\"draggable\":false,\"rotationStyle\":\"all around\"}],\"monitors\":[{\"id\":\"v\",\"mode\":\"default\",\"opcode\":\"data_variable\",\"params\":{\"VARIABLE\":\"n\"},\"spriteName\":null,\"value\":0,\"visible\":true}],\"extensions\":[],\"meta\":{\"semver\":\"3.0.0\"}}";
 
-const SET_AND_CHANGE: &str =
+static SET_AND_CHANGE: &str =
     "{\"a1\":{\"opcode\":\"event_whenflagclicked\",\"next\":\"a2\",\"topLevel\":true},\"a2\":{\"opcode\":\"data_setvariableto\",\"next\":\"a3\",\"inputs\":{\"VALUE\":[1,[4,\"5\"]]},\"fields\":{\"VARIABLE\":[\"n\",\"v\"]}},\"a3\":{\"opcode\":\"data_changevariableby\",\"next\":null,\"inputs\":{\"VALUE\":[1,[4,\"2\"]]},\"fields\":{\"VARIABLE\":[\"n\",\"v\"]}}}";
 
-const SET_TO_ONE: &str =
+static SET_TO_ONE: &str =
     "{\"a1\":{\"opcode\":\"event_whenflagclicked\",\"next\":\"a2\",\"topLevel\":true},\"a2\":{\"opcode\":\"data_setvariableto\",\"inputs\":{\"VALUE\":[1,[4,\"1\"]]},\"fields\":{\"VARIABLE\":[\"n\",\"v\"]}}}";
 
-const SET_TO_TWO: &str =
+static SET_TO_TWO: &str =
     "{\"a1\":{\"opcode\":\"event_whenflagclicked\",\"next\":\"a2\",\"topLevel\":true},\"a2\":{\"opcode\":\"data_setvariableto\",\"inputs\":{\"VALUE\":[1,[4,\"2\"]]},\"fields\":{\"VARIABLE\":[\"n\",\"v\"]}}}";
 
-const FORWARD: &str =
+static FORWARD: &str =
     "{\"a1\":{\"opcode\":\"event_whenflagclicked\",\"next\":\"a2\",\"topLevel\":true},\"a2\":{\"opcode\":\"control_forever\"}}";
 
-const TOUCHING: &str =
+static TOUCHING: &str =
     "{\"a1\":{\"opcode\":\"event_whenflagclicked\",\"next\":\"a2\",\"topLevel\":true},\"a2\":{\"opcode\":\"control_if\",\"inputs\":{\"CONDITION\":[2,\"a3\"]}},\"a3\":{\"opcode\":\"sensing_touchingobject\"}}";
 
-const OWN_NEXT: &str =
+static OWN_NEXT: &str =
     "{\"a1\":{\"opcode\":\"event_whenflagclicked\",\"next\":\"a2\",\"topLevel\":true},\"a2\":{\"opcode\":\"looks_hide\",\"next\":\"a2\"}}";
 
 // The base file with these blocks of the stage and of Cat.
-fn project(alloc: Global, stage: &str, cat: &str) -> Result<String, AllocError> {
-    format!(in alloc; "{BEFORE_STAGE}{stage}{BEFORE_CAT}{cat}{AFTER_CAT}")
+fn project(rt: &(impl Abort + AllocGlobal), stage: &str, cat: &str) -> String {
+    let text = format!(in rt.alloc(); "{BEFORE_STAGE}{stage}{BEFORE_CAT}{cat}{AFTER_CAT}");
+    text.expect(rt, "memory")
 }
 
 // A shelf with a project `p` and a script `s`, where these calls fail.
 fn shelf(
-    alloc: Global,
+    rt: &(impl Abort + AllocGlobal),
     project: &[u8],
     script: &[u8],
     failing: Numbers,
-) -> Result<MemoryShelf, AllocError> {
-    let mut files = NamedBytes::new(alloc);
-    files.push("p", project)?;
-    files.push("s", script)?;
-    Ok(MemoryShelf::new(alloc, files, failing))
+) -> MemoryShelf {
+    let mut files = NamedBytes::new(rt.alloc());
+    files.push("p", project).expect(rt, "memory");
+    files.push("s", script).expect(rt, "memory");
+    MemoryShelf::new(rt.alloc(), files, failing)
+}
+
+fn one_call(rt: &(impl Abort + AllocGlobal), number: u64) -> Numbers {
+    let mut calls = Numbers::new(rt.alloc());
+    calls.push(number).expect(rt, "memory");
+    calls
 }
 
 // A line of words, with a single space between each two.
-fn words_of(alloc: Global, line: &str) -> Result<Vec<String>, AllocError> {
-    let mut words = Vec::new(alloc);
+fn words_of(rt: &(impl Abort + AllocGlobal), line: &str) -> Vec<String> {
+    let mut words = Vec::new(rt.alloc());
     for word in line.split(' ') {
-        words.push(String::from_str(alloc, word)?)?;
+        let word = String::from_str(rt.alloc(), word).expect(rt, "memory");
+        words.push(word).expect(rt, "memory");
     }
-    Ok(words)
+    words
+}
+
+// As it is called. Nothing of its contract is needed here: a test compares as it runs.
+fn called<H: Shelf, K: Sink>(
+    alloc: Global,
+    words: &[String],
+    shelf: &mut H,
+    out: &mut K,
+) -> Status {
+    play(alloc, words, shelf, out)
 }
 
 // What a call answers and writes: the status's text, its number, and the bytes.
@@ -74,116 +91,96 @@ struct Answer {
     written: Vec<u8>,
 }
 
-fn told(alloc: Global, status: &Status, written: &[u8]) -> Result<Answer, AllocError> {
-    Ok(Answer {
-        text: status_text(alloc, status)?,
+fn told(rt: &(impl Abort + AllocGlobal), status: &Status, written: &[u8]) -> Answer {
+    Answer {
+        text: status_text(rt.alloc(), status).expect(rt, "memory"),
         number: exit_number(status),
-        written: written.to_vec(alloc)?,
-    })
+        written: written.to_vec(rt.alloc()).expect(rt, "memory"),
+    }
 }
 
-fn answered(
-    alloc: Global,
-    words: &str,
-    project: &[u8],
-    script: &[u8],
-) -> Result<Answer, AllocError> {
-    let mut shelf = shelf(alloc, project, script, Numbers::new(alloc))?;
-    let mut out = SteadySink::new(alloc);
-    let status = play(alloc, &words_of(alloc, words)?, &mut shelf, &mut out);
-    told(alloc, &status, out.written())
+// The answer over this shelf, where every write is done.
+fn over(rt: &(impl Abort + AllocGlobal), words: &str, shelf: &mut MemoryShelf) -> Answer {
+    let mut out = SteadySink::new(rt.alloc());
+    let status = called(rt.alloc(), &words_of(rt, words), shelf, &mut out);
+    told(rt, &status, out.written())
+}
+
+fn answered(rt: &(impl Abort + AllocGlobal), words: &str, project: &[u8], script: &[u8]) -> Answer {
+    let mut shelf = shelf(rt, project, script, Numbers::new(rt.alloc()));
+    over(rt, words, &mut shelf)
 }
 
 // The same where one call of the shelf fails.
-fn unfetched(alloc: Global, words: &str, failing: u64) -> Result<Answer, AllocError> {
-    let mut calls = Numbers::new(alloc);
-    calls.push(failing)?;
-    let base = project(alloc, "{}", "{}")?;
-    let mut shelf = shelf(alloc, base.as_bytes(), TWO_FRAMES, calls)?;
-    let mut out = SteadySink::new(alloc);
-    let status = play(alloc, &words_of(alloc, words)?, &mut shelf, &mut out);
-    told(alloc, &status, out.written())
+fn unfetched(rt: &(impl Abort + AllocGlobal), words: &str, failing: u64) -> Answer {
+    let base = project(rt, "{}", "{}");
+    let mut shelf = shelf(rt, base.as_bytes(), TWO_FRAMES, one_call(rt, failing));
+    over(rt, words, &mut shelf)
 }
 
 // The same where one write fails after some bytes.
-fn unwritten(alloc: Global, words: &str, failing: u64, kept: u64) -> Result<Answer, AllocError> {
-    let base = project(alloc, "{}", "{}")?;
-    let mut shelf = shelf(alloc, base.as_bytes(), TWO_FRAMES, Numbers::new(alloc))?;
-    let mut fails = Pairs::new(alloc);
-    fails.push((failing, kept))?;
-    let mut out = MemorySink::new(alloc, fails);
-    let status = play(alloc, &words_of(alloc, words)?, &mut shelf, &mut out);
-    told(alloc, &status, out.written())
+fn unwritten(rt: &(impl Abort + AllocGlobal), words: &str, failing: u64, kept: u64) -> Answer {
+    let base = project(rt, "{}", "{}");
+    let mut shelf = shelf(rt, base.as_bytes(), TWO_FRAMES, Numbers::new(rt.alloc()));
+    let mut fails = Pairs::new(rt.alloc());
+    fails.push((failing, kept)).expect(rt, "memory");
+    let mut out = MemorySink::new(rt.alloc(), fails);
+    let status = called(rt.alloc(), &words_of(rt, words), &mut shelf, &mut out);
+    told(rt, &status, out.written())
+}
+
+// What stands under a name, if anything does.
+fn bytes_at(rt: &(impl Abort + AllocGlobal), shelf: &MemoryShelf, name: &str) -> Option<Vec<u8>> {
+    match shelf.bytes(name) {
+        Some(bytes) => Some(bytes.to_vec(rt.alloc()).expect(rt, "memory")),
+        None => None,
+    }
 }
 
 // The saved run of the base file with no blocks, after TWO_FRAMES with the seed 7, as its format says.
-const SAVED: &str =
+static SAVED: &str =
     "{\"answer\":\"\",\"clock\":0,\"drawn\":0,\"frame\":2,\"instances\":[{\"bubble\":[\"say\",\"\",0],\"costume\":0,\"direction\":90000000,\"edges\":[],\"effects\":[0,0,0,0,0,0,0],\"lists\":[[]],\"number\":0,\"of\":0,\"size\":100000000,\"style\":0,\"variables\":[[0]],\"visible\":true,\"x\":0,\"y\":0},{\"bubble\":[\"say\",\"\",0],\"costume\":0,\"direction\":90000000,\"edges\":[],\"effects\":[0,0,0,0,0,0,0],\"lists\":[],\"number\":1,\"of\":1,\"size\":100000000,\"style\":0,\"variables\":[],\"visible\":true,\"x\":0,\"y\":0}],\"keys\":[],\"made\":[],\"monitors\":[true],\"mouse\":[0,0,false],\"next\":[1,2,1],\"project\":\"bc2740f938d9fa5d256328f8f77408ce17ec7fdd4ee29446f02128f83ec259cd\",\"questions\":[],\"seed\":7,\"threads\":[],\"timer\":0,\"timers\":[],\"turbo\":false,\"version\":1}";
 
 // What a call over the base file with no blocks answers, and what it leaves under the name `kept`; one call of the shelf
 // fails.
 fn saved(
-    alloc: Global,
+    rt: &(impl Abort + AllocGlobal),
     words: &str,
     script: &[u8],
     failing: u64,
-) -> Result<(Answer, Option<Vec<u8>>), AllocError> {
-    let mut calls = Numbers::new(alloc);
-    calls.push(failing)?;
-    let base = project(alloc, "{}", "{}")?;
-    let mut shelf = shelf(alloc, base.as_bytes(), script, calls)?;
-    let mut out = SteadySink::new(alloc);
-    let status = play(alloc, &words_of(alloc, words)?, &mut shelf, &mut out);
-    let kept = match shelf.bytes("kept") {
-        Some(bytes) => Some(bytes.to_vec(alloc)?),
-        None => None,
-    };
-    Ok((told(alloc, &status, out.written())?, kept))
+) -> (Answer, Option<Vec<u8>>) {
+    let base = project(rt, "{}", "{}");
+    let mut shelf = shelf(rt, base.as_bytes(), script, one_call(rt, failing));
+    let answer = over(rt, words, &mut shelf);
+    (answer, bytes_at(rt, &shelf, "kept"))
 }
 
 // The answer has this text and number, and so much was written.
 fn is_told(rt: &impl Abort, answer: &Answer, text: &str, number: u8, written: &[u8]) {
-    assert_eq!(rt; answer.text.as_str(), text);
-    assert_eq!(rt; answer.number, number);
-    assert_eq!(rt; answer.written.as_slice(), written);
+    assert!(rt; answer.text.as_str() == text, "{text}");
+    assert!(rt; answer.number == number, "{text}");
+    assert!(rt; answer.written.as_slice() == written, "{text}");
 }
 
-const TWO_FRAMES: &[u8] = b"frame 0 1 0\nflag\nframe 0 1 0\n";
+static TWO_FRAMES: &[u8] = b"frame 0 1 0\nflag\nframe 0 1 0\n";
 
 // A frame of the base file, with this value of n.
-fn frame_at(alloc: Global, number: u32, clock: u32, value: &str) -> Result<String, AllocError> {
-    format!(in alloc;
+fn frame_at(rt: &(impl Abort + AllocGlobal), number: u32, clock: u32, value: &str) -> String {
+    let text = format!(in rt.alloc();
         "frame {number} clock {clock} words 0\nstage 1 \"b1\"\nsprite 1 \"Cat\" original shown 0 0 90 100 1 \"c1\" \"all around\"\nmonitor \"n\" \"{value}\"\nend\n"
-    )
+    );
+    text.expect(rt, "memory")
 }
 
 // One frame after a click on the flag.
-fn plays_to(
-    rt: &impl Abort,
-    alloc: Global,
-    stage: &str,
-    cat: &str,
-    value: &str,
-) -> Result<(), Fail> {
-    let base = project(alloc, stage, cat)?;
-    let answer = answered(
-        alloc,
-        "play p s 1 -",
-        base.as_bytes(),
-        b"flag\nframe 0 1 0\n",
-    )?;
-    is_told(
-        rt,
-        &answer,
-        "Done",
-        0,
-        frame_at(alloc, 1, 0, value)?.as_bytes(),
-    );
-    Ok(())
+fn plays_to(rt: &(impl Abort + AllocGlobal), stage: &str, cat: &str, value: &str) {
+    let base = project(rt, stage, cat);
+    let answer = answered(rt, "play p s 1 -", base.as_bytes(), b"flag\nframe 0 1 0\n");
+    is_told(rt, &answer, "Done", 0, frame_at(rt, 1, 0, value).as_bytes());
 }
 
 #[test]
-fn one_frame(rt: HostRuntime) -> Result<(), Fail> {
+fn one_frame(rt: HostRuntime) {
     let rows = [
         ("{}", "{}", "0"),
         ("{}", SET_AND_CHANGE, "7"),
@@ -191,21 +188,19 @@ fn one_frame(rt: HostRuntime) -> Result<(), Fail> {
         (SET_TO_TWO, SET_TO_ONE, "2"),
     ];
     for (stage, cat, value) in rows {
-        plays_to(&rt, rt.alloc(), stage, cat, value)?;
+        plays_to(&rt, stage, cat, value);
     }
-    Ok(())
 }
 
 #[test]
-fn a_run_is_saved(rt: HostRuntime) -> Result<(), Fail> {
-    let (answer, kept) = saved(rt.alloc(), "play p s 7 kept", TWO_FRAMES, 9)?;
+fn a_run_is_saved(rt: HostRuntime) {
+    let (answer, kept) = saved(&rt, "play p s 7 kept", TWO_FRAMES, 9);
     assert_eq!(rt; answer.text.as_str(), "Done");
     assert_eq!(rt; kept.as_deref(), Some(SAVED.as_bytes()));
-    Ok(())
 }
 
 #[test]
-fn runs_that_are_not_saved(rt: HostRuntime) -> Result<(), Fail> {
+fn runs_that_are_not_saved(rt: HostRuntime) {
     let rows: [(&str, &[u8], u64, &str, u8); 4] = [
         ("play p s 7 -", TWO_FRAMES, 9, "Done", 0),
         ("play p s 7 kept", b"flag\njump\n", 9, "BadScript 2 2", 5),
@@ -214,60 +209,57 @@ fn runs_that_are_not_saved(rt: HostRuntime) -> Result<(), Fail> {
         ("play p s 7 kept", TWO_FRAMES, 1, "ReadFault", 2),
     ];
     for (words, script, failing, text, number) in rows {
-        let (answer, kept) = saved(rt.alloc(), words, script, failing)?;
+        let (answer, kept) = saved(&rt, words, script, failing);
         assert_eq!(rt; answer.text.as_str(), text);
         assert_eq!(rt; answer.number, number);
         assert_eq!(rt; kept.is_none(), true);
     }
-    Ok(())
 }
 
 // What `resume` answers over the base file with no blocks and this saved run, and what it leaves under the name `next`.
 fn resumed(
-    alloc: Global,
+    rt: &(impl Abort + AllocGlobal),
     words: &str,
     kept: &[u8],
     script: &[u8],
-) -> Result<(Answer, Option<Vec<u8>>), AllocError> {
-    let base = project(alloc, "{}", "{}")?;
-    let mut files = NamedBytes::new(alloc);
-    files.push("p", base.as_bytes())?;
-    files.push("kept", kept)?;
-    files.push("s", script)?;
-    let mut shelf = MemoryShelf::new(alloc, files, Numbers::new(alloc));
-    let mut out = SteadySink::new(alloc);
-    let status = play(alloc, &words_of(alloc, words)?, &mut shelf, &mut out);
-    let next = match shelf.bytes("next") {
-        Some(bytes) => Some(bytes.to_vec(alloc)?),
-        None => None,
-    };
-    Ok((told(alloc, &status, out.written())?, next))
+) -> (Answer, Option<Vec<u8>>) {
+    let base = project(rt, "{}", "{}");
+    let mut files = NamedBytes::new(rt.alloc());
+    files.push("p", base.as_bytes()).expect(rt, "memory");
+    files.push("kept", kept).expect(rt, "memory");
+    files.push("s", script).expect(rt, "memory");
+    let mut shelf = MemoryShelf::new(rt.alloc(), files, Numbers::new(rt.alloc()));
+    let answer = over(rt, words, &mut shelf);
+    (answer, bytes_at(rt, &shelf, "next"))
 }
 
 #[test]
-fn a_saved_run_is_gone_on_with(rt: HostRuntime) -> Result<(), Fail> {
+fn a_saved_run_is_gone_on_with(rt: HostRuntime) {
     let alloc = rt.alloc();
     let (answer, next) = resumed(
-        alloc,
+        &rt,
         "resume p kept s next",
         SAVED.as_bytes(),
         b"frame 40 1 0\n",
-    )?;
+    );
     is_told(
         &rt,
         &answer,
         "Done",
         0,
-        frame_at(alloc, 3, 40, "0")?.as_bytes(),
+        frame_at(&rt, 3, 40, "0").as_bytes(),
     );
-    let clock = SAVED.replace(alloc, "\"clock\":0", "\"clock\":40")?;
-    let after = clock.replace(alloc, "\"frame\":2", "\"frame\":3")?;
+    let clock = SAVED
+        .replace(alloc, "\"clock\":0", "\"clock\":40")
+        .expect(&rt, "memory");
+    let after = clock
+        .replace(alloc, "\"frame\":2", "\"frame\":3")
+        .expect(&rt, "memory");
     assert_eq!(rt; next.as_deref(), Some(after.as_bytes()));
-    Ok(())
 }
 
 #[test]
-fn saved_runs_that_are_refused(rt: HostRuntime) -> Result<(), Fail> {
+fn saved_runs_that_are_refused(rt: HostRuntime) {
     let rows = [
         ("{\"answer\"", "[\"answer\"", "BadSave S1"),
         ("\"frame\":2", "\"frame\":-2", "BadSave S2"),
@@ -277,48 +269,42 @@ fn saved_runs_that_are_refused(rt: HostRuntime) -> Result<(), Fail> {
         ("{\"answer\"", " {\"answer\"", "BadSave S7"),
     ];
     for (from, to, text) in rows {
-        let edited = SAVED.replace(rt.alloc(), from, to)?;
-        let (answer, next) = resumed(
-            rt.alloc(),
-            "resume p kept s next",
-            edited.as_bytes(),
-            TWO_FRAMES,
-        )?;
+        let edited = SAVED.replace(rt.alloc(), from, to).expect(&rt, "memory");
+        let (answer, next) = resumed(&rt, "resume p kept s next", edited.as_bytes(), TWO_FRAMES);
         is_told(&rt, &answer, text, 6, b"");
         assert_eq!(rt; next.is_none(), true);
     }
-    Ok(())
 }
 
 #[test]
-fn a_clock_that_goes_back_behind_a_saved_run(rt: HostRuntime) -> Result<(), Fail> {
-    let later = SAVED.replace(rt.alloc(), "\"clock\":0", "\"clock\":9")?;
+fn a_clock_that_goes_back_behind_a_saved_run(rt: HostRuntime) {
+    let later = SAVED
+        .replace(rt.alloc(), "\"clock\":0", "\"clock\":9")
+        .expect(&rt, "memory");
     let (answer, next) = resumed(
-        rt.alloc(),
+        &rt,
         "resume p kept s next",
         later.as_bytes(),
         b"frame 8 1 0\n",
-    )?;
+    );
     is_told(&rt, &answer, "BadScript 5 1", 5, b"");
     assert_eq!(rt; next.is_none(), true);
-    Ok(())
 }
 
 #[test]
-fn an_empty_script_and_an_unknown_line(rt: HostRuntime) -> Result<(), Fail> {
-    let base = project(rt.alloc(), "{}", "{}")?;
+fn an_empty_script_and_an_unknown_line(rt: HostRuntime) {
+    let base = project(&rt, "{}", "{}");
     let rows: [(&[u8], &str, u8); 2] = [(b"", "Done", 0), (b"jump\n", "BadScript 2 1", 5)];
     for (script, text, number) in rows {
-        let answer = answered(rt.alloc(), "play p s 1 -", base.as_bytes(), script)?;
+        let answer = answered(&rt, "play p s 1 -", base.as_bytes(), script);
         is_told(&rt, &answer, text, number, b"");
     }
-    Ok(())
 }
 
 #[test]
-fn a_write_that_fails(rt: HostRuntime) -> Result<(), Fail> {
-    let frame = frame_at(rt.alloc(), 1, 0, "0")?;
-    let cut = format!(in rt.alloc(); "{}frame", frame.as_str())?;
+fn a_write_that_fails(rt: HostRuntime) {
+    let frame = frame_at(&rt, 1, 0, "0");
+    let cut = format!(in rt.alloc(); "{}frame", frame.as_str()).expect(&rt, "memory");
     let rows: [(&str, u64, u64, &[u8]); 4] = [
         ("play p s 1 -", 0, 0, b""),
         ("play p s 1 -", 1, 5, cut.as_bytes()),
@@ -326,14 +312,13 @@ fn a_write_that_fails(rt: HostRuntime) -> Result<(), Fail> {
         ("check p", 0, 8, b"accepted"),
     ];
     for (words, failing, kept, written) in rows {
-        let answer = unwritten(rt.alloc(), words, failing, kept)?;
+        let answer = unwritten(&rt, words, failing, kept);
         is_told(&rt, &answer, "WriteFault", 3, written);
     }
-    Ok(())
 }
 
 #[test]
-fn files_that_are_not_fetched(rt: HostRuntime) -> Result<(), Fail> {
+fn files_that_are_not_fetched(rt: HostRuntime) {
     let rows = [
         ("play p s 1 -", 0),
         ("play p s 1 -", 1),
@@ -342,35 +327,33 @@ fn files_that_are_not_fetched(rt: HostRuntime) -> Result<(), Fail> {
         ("check missing", 9),
     ];
     for (words, failing) in rows {
-        let answer = unfetched(rt.alloc(), words, failing)?;
+        let answer = unfetched(&rt, words, failing);
         is_told(&rt, &answer, "ReadFault", 2, b"");
     }
-    Ok(())
 }
 
 #[test]
-fn a_project_above_its_limit(rt: HostRuntime) -> Result<(), Fail> {
-    let large = vec![in rt.alloc(); b' '; 33_554_433]?;
+fn a_project_above_its_limit(rt: HostRuntime) {
+    let large = vec![in rt.alloc(); b' '; 33_554_433].expect(&rt, "memory");
     for words in ["play p s 1 -", "check p"] {
-        let answer = answered(rt.alloc(), words, &large, b"")?;
+        let answer = answered(&rt, words, &large, b"");
         is_told(&rt, &answer, "TooLarge", 8, b"");
     }
-    Ok(())
 }
 
 // The fault of a project whose bytes are no JSON text.
-fn json_fault(alloc: Global, words: &str, bytes: &[u8]) -> Result<Option<JsonRefusal>, AllocError> {
-    let mut shelf = shelf(alloc, bytes, b"", Numbers::new(alloc))?;
-    let mut out = SteadySink::new(alloc);
-    match play(alloc, &words_of(alloc, words)?, &mut shelf, &mut out) {
-        Status::BadProject(Refusal::Json(fault)) => Ok(Some(fault)),
-        _ => Ok(None),
+fn json_fault(rt: &(impl Abort + AllocGlobal), words: &str, bytes: &[u8]) -> Option<JsonRefusal> {
+    let mut shelf = shelf(rt, bytes, b"", Numbers::new(rt.alloc()));
+    let mut out = SteadySink::new(rt.alloc());
+    match called(rt.alloc(), &words_of(rt, words), &mut shelf, &mut out) {
+        Status::BadProject(Refusal::Json(fault)) => Some(fault),
+        _ => None,
     }
 }
 
 #[test]
-fn texts_that_are_no_json(rt: HostRuntime) -> Result<(), Fail> {
-    let deep = vec![in rt.alloc(); b'['; 257]?;
+fn texts_that_are_no_json(rt: HostRuntime) {
+    let deep = vec![in rt.alloc(); b'['; 257].expect(&rt, "memory");
     let rows: [(&[u8], JsonRefusal); 4] = [
         (b"", JsonRefusal::Syntax { at: 0 }),
         (b"[1,]", JsonRefusal::Syntax { at: 3 }),
@@ -378,16 +361,15 @@ fn texts_that_are_no_json(rt: HostRuntime) -> Result<(), Fail> {
         (deep.as_slice(), JsonRefusal::TooDeep { at: 256 }),
     ];
     for (bytes, fault) in rows {
-        assert_eq!(rt; json_fault(rt.alloc(), "play p s 1 -", bytes)?, Some(fault));
-        assert_eq!(rt; json_fault(rt.alloc(), "check p", bytes)?, Some(fault));
-        let answer = answered(rt.alloc(), "check p", bytes, b"")?;
+        assert_eq!(rt; json_fault(&rt, "play p s 1 -", bytes), Some(fault));
+        assert_eq!(rt; json_fault(&rt, "check p", bytes), Some(fault));
+        let answer = answered(&rt, "check p", bytes, b"");
         is_told(&rt, &answer, "BadProject P1", 4, b"");
     }
-    Ok(())
 }
 
 #[test]
-fn projects_that_are_checked(rt: HostRuntime) -> Result<(), Fail> {
+fn projects_that_are_checked(rt: HostRuntime) {
     let rows = [
         ("{}", "Done", 0, "accepted 2 0\n"),
         (SET_AND_CHANGE, "Done", 0, "accepted 2 3\n"),
@@ -396,34 +378,31 @@ fn projects_that_are_checked(rt: HostRuntime) -> Result<(), Fail> {
         (OWN_NEXT, "BadProject P7", 4, ""),
     ];
     for (blocks, text, number, written) in rows {
-        let base = project(rt.alloc(), "{}", blocks)?;
-        let answer = answered(rt.alloc(), "check p", base.as_bytes(), b"")?;
+        let base = project(&rt, "{}", blocks);
+        let answer = answered(&rt, "check p", base.as_bytes(), b"");
         is_told(&rt, &answer, text, number, written.as_bytes());
     }
-    Ok(())
 }
 
 #[test]
-fn a_refused_project_is_not_played(rt: HostRuntime) -> Result<(), Fail> {
+fn a_refused_project_is_not_played(rt: HostRuntime) {
     for (blocks, text) in [(TOUCHING, "BadProject P5"), (OWN_NEXT, "BadProject P7")] {
-        let base = project(rt.alloc(), "{}", blocks)?;
-        let answer = answered(rt.alloc(), "play p s 1 -", base.as_bytes(), TWO_FRAMES)?;
+        let base = project(&rt, "{}", blocks);
+        let answer = answered(&rt, "play p s 1 -", base.as_bytes(), TWO_FRAMES);
         is_told(&rt, &answer, text, 4, b"");
     }
-    Ok(())
 }
 
 // When the flag is clicked: set n to 0123456789; repeat 17: set n to (join n n).
-const DOUBLE: &str =
+static DOUBLE: &str =
     "{\"a1\":{\"opcode\":\"event_whenflagclicked\",\"next\":\"a2\",\"topLevel\":true},\"a2\":{\"opcode\":\"data_setvariableto\",\"next\":\"a3\",\"inputs\":{\"VALUE\":[1,[10,\"0123456789\"]]},\"fields\":{\"VARIABLE\":[\"n\",\"v\"]}},\"a3\":{\"opcode\":\"control_repeat\",\"inputs\":{\"TIMES\":[1,[6,\"17\"]],\"SUBSTACK\":[2,\"a4\"]}},\"a4\":{\"opcode\":\"data_setvariableto\",\"inputs\":{\"VALUE\":[3,\"a5\",[10,\"\"]]},\"fields\":{\"VARIABLE\":[\"n\",\"v\"]}},\"a5\":{\"opcode\":\"operator_join\",\"inputs\":{\"STRING1\":[3,[12,\"n\",\"v\"],[10,\"\"]],\"STRING2\":[3,[12,\"n\",\"v\"],[10,\"\"]]}}}";
 
 #[test]
-fn a_limit_writes_its_line(rt: HostRuntime) -> Result<(), Fail> {
-    let base = project(rt.alloc(), "{}", DOUBLE)?;
+fn a_limit_writes_its_line(rt: HostRuntime) {
+    let base = project(&rt, "{}", DOUBLE);
     let script = b"flag\nframe 0 30 1000\n";
-    let answer = answered(rt.alloc(), "play p s 1 -", base.as_bytes(), script)?;
+    let answer = answered(&rt, "play p s 1 -", base.as_bytes(), script);
     is_told(&rt, &answer, "Limit", 7, b"limit text 1310720\n");
-    Ok(())
 }
 
 static LINES: [(&[u8], &str); 7] = [
@@ -437,18 +416,19 @@ static LINES: [(&[u8], &str); 7] = [
 ];
 
 #[test]
-fn lines_that_are_refused(rt: HostRuntime) -> Result<(), Fail> {
+fn lines_that_are_refused(rt: HostRuntime) {
     let alloc = rt.alloc();
-    let base = project(alloc, "{}", "{}")?;
-    let frame = frame_at(alloc, 1, 9, "0")?;
+    let base = project(&rt, "{}", "{}");
+    let frame = frame_at(&rt, 1, 9, "0");
     for (line, text) in &LINES {
-        let mut script = b"# one\nframe 9 10000 1000000\n\n".to_vec(alloc)?;
-        script.extend_from_slice(line)?;
-        script.extend_from_slice(b"\nflag\n")?;
-        let answer = answered(alloc, "play p s 1 -", base.as_bytes(), &script)?;
+        let mut script = b"# one\nframe 9 10000 1000000\n\n"
+            .to_vec(alloc)
+            .expect(&rt, "memory");
+        script.extend_from_slice(line).expect(&rt, "memory");
+        script.extend_from_slice(b"\nflag\n").expect(&rt, "memory");
+        let answer = answered(&rt, "play p s 1 -", base.as_bytes(), &script);
         is_told(&rt, &answer, text, 5, frame.as_bytes());
     }
-    Ok(())
 }
 
 static NO_FORMS: [&str; 16] = [
@@ -471,62 +451,58 @@ static NO_FORMS: [&str; 16] = [
 ];
 
 #[test]
-fn words_that_are_no_form(rt: HostRuntime) -> Result<(), Fail> {
-    let base = project(rt.alloc(), "{}", "{}")?;
+fn words_that_are_no_form(rt: HostRuntime) {
+    let base = project(&rt, "{}", "{}");
     for words in &NO_FORMS {
-        let answer = answered(rt.alloc(), words, base.as_bytes(), TWO_FRAMES)?;
+        let answer = answered(&rt, words, base.as_bytes(), TWO_FRAMES);
         is_told(&rt, &answer, "Usage", 1, b"");
     }
-    Ok(())
 }
 
 #[test]
-fn the_largest_seed(rt: HostRuntime) -> Result<(), Fail> {
-    let base = project(rt.alloc(), "{}", "{}")?;
-    let answer = answered(
-        rt.alloc(),
-        "play p s 18446744073709551615 -",
-        base.as_bytes(),
-        b"",
-    )?;
+fn the_largest_seed(rt: HostRuntime) {
+    let base = project(&rt, "{}", "{}");
+    let answer = answered(&rt, "play p s 18446744073709551615 -", base.as_bytes(), b"");
     is_told(&rt, &answer, "Done", 0, b"");
-    Ok(())
 }
 
 #[test]
-fn a_name_keeps_the_blanks_at_its_ends(rt: HostRuntime) -> Result<(), Fail> {
+fn a_name_keeps_the_blanks_at_its_ends(rt: HostRuntime) {
     let alloc = rt.alloc();
-    let base = project(alloc, "{}", "{}")?;
+    let base = project(&rt, "{}", "{}");
     let mut files = NamedBytes::new(alloc);
-    files.push(" p ", base.as_bytes())?;
+    files.push(" p ", base.as_bytes()).expect(&rt, "memory");
     let mut shelf = MemoryShelf::new(alloc, files, Numbers::new(alloc));
     let mut out = SteadySink::new(alloc);
-    let status = play(alloc, &words_of(alloc, "check p")?, &mut shelf, &mut out);
+    let status = play(alloc, &words_of(&rt, "check p"), &mut shelf, &mut out);
     assert_eq!(rt; exit_number(&status), 2);
     let mut blanks = Vec::new(alloc);
     for word in ["check", " p "] {
-        blanks.push(String::from_str(alloc, word)?)?;
+        blanks
+            .push(String::from_str(alloc, word).expect(&rt, "memory"))
+            .expect(&rt, "memory");
     }
     let status = play(alloc, &blanks, &mut shelf, &mut out);
     assert_eq!(rt; exit_number(&status), 0);
-    Ok(())
 }
 
 #[test]
-fn a_thousand_frames_and_flags(rt: HostRuntime) -> Result<(), Fail> {
-    let base = project(rt.alloc(), "{}", SET_AND_CHANGE)?;
+fn a_thousand_frames_and_flags(rt: HostRuntime) {
+    let base = project(&rt, "{}", SET_AND_CHANGE);
     let mut script = String::new(rt.alloc());
     let mut expected = String::new(rt.alloc());
     for number in 1..1001u32 {
-        script.push_str(format!(in rt.alloc(); "flag\nframe {number} 1 0\n")?.as_str())?;
-        expected.push_str(frame_at(rt.alloc(), number, number, "7")?.as_str())?;
+        script
+            .push_str(
+                format!(in rt.alloc(); "flag\nframe {number} 1 0\n")
+                    .expect(&rt, "memory")
+                    .as_str(),
+            )
+            .expect(&rt, "memory");
+        expected
+            .push_str(frame_at(&rt, number, number, "7").as_str())
+            .expect(&rt, "memory");
     }
-    let answer = answered(
-        rt.alloc(),
-        "play p s 1 -",
-        base.as_bytes(),
-        script.as_bytes(),
-    )?;
+    let answer = answered(&rt, "play p s 1 -", base.as_bytes(), script.as_bytes());
     is_told(&rt, &answer, "Done", 0, expected.as_bytes());
-    Ok(())
 }

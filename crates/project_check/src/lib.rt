@@ -13,6 +13,3 @@ pub use heads::Heads;
 pub use loading::load;
 pub use procedures::Callee;
 pub use project::Project;
-
-#[cfg(test)]
-mod tests;

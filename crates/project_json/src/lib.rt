@@ -24,6 +24,3 @@ pub use parts::{digits_of, is_null, items_of, member, members_of, text_of, truth
 pub use reading::read;
 pub use refusal::JsonRefusal;
 pub use text::{Decimal, Text, Texts};
-
-#[cfg(test)]
-mod tests;

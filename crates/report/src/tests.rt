@@ -2,47 +2,58 @@
 
 use crate::status::{Status, exit_number, told};
 use crate::top::report;
-use std::alloc::{AllocError, Global};
+use std::alloc::Global;
 use std::process::Abort;
-use std::test::Fail;
-use sv_channels::{MemoryShelf, MemorySink, NamedBytes, Numbers, Pairs, SteadySink};
+use sv_channels::{MemoryShelf, MemorySink, NamedBytes, Numbers, Pairs, Shelf, Sink, SteadySink};
 
 // The base file up to the blocks of the stage.
-const BEFORE_STAGE: &str =
+static BEFORE_STAGE: &str =
     "{\"targets\":[{\"isStage\":true,\"name\":\"Stage\",\"variables\":{\"v\":[\"n\",0]},\"lists\":{\"k\":[\"l\",[]]},\"broadcasts\":{},\"blocks\":";
 
 // From there to the name of the sprite.
-const BEFORE_NAME: &str =
+static BEFORE_NAME: &str =
     ",\"comments\":{},\"currentCostume\":0,\"costumes\":[{\"name\":\"b1\"}],\"sounds\":[],\"volume\":100,\"layerOrder\":0},{\"isStage\":false,\"name\":";
 
 // From there to its blocks.
-const BEFORE_BLOCKS: &str = ",\"variables\":{},\"lists\":{},\"broadcasts\":{},\"blocks\":";
+static BEFORE_BLOCKS: &str = ",\"variables\":{},\"lists\":{},\"broadcasts\":{},\"blocks\":";
 
 // From there to the end.
-const AFTER_BLOCKS: &str =
+static AFTER_BLOCKS: &str =
     ",\"comments\":{},\"currentCostume\":0,\"costumes\":[{\"name\":\"c1\"}],\"sounds\":[],\"volume\":100,\"layerOrder\":1,\"visible\":true,\"x\":0,\"y\":0,\"size\":100,\"direction\":90,\"draggable\":false,\"rotationStyle\":\"all around\"}],\"monitors\":[]}";
 
 // The base file with these blocks of the stage, and these of a sprite whose name is such a text.
-fn project(alloc: Global, stage: &str, name: &str, blocks: &str) -> Result<String, AllocError> {
-    format!(in alloc;
+fn project(rt: &(impl Abort + AllocGlobal), stage: &str, name: &str, blocks: &str) -> String {
+    let text = format!(in rt.alloc();
         "{BEFORE_STAGE}{stage}{BEFORE_NAME}{name}{BEFORE_BLOCKS}{blocks}{AFTER_BLOCKS}"
-    )
+    );
+    text.expect(rt, "memory")
 }
 
 // A shelf with a project `p`, where these calls fail.
-fn shelf(alloc: Global, project: &[u8], failing: Numbers) -> Result<MemoryShelf, AllocError> {
-    let mut files = NamedBytes::new(alloc);
-    files.push("p", project)?;
-    Ok(MemoryShelf::new(alloc, files, failing))
+fn shelf(rt: &(impl Abort + AllocGlobal), project: &[u8], failing: Numbers) -> MemoryShelf {
+    let mut files = NamedBytes::new(rt.alloc());
+    files.push("p", project).expect(rt, "memory");
+    MemoryShelf::new(rt.alloc(), files, failing)
 }
 
 // A line of words, with a single space between each two.
-fn words_of(alloc: Global, line: &str) -> Result<Vec<String>, AllocError> {
-    let mut words = Vec::new(alloc);
+fn words_of(rt: &(impl Abort + AllocGlobal), line: &str) -> Vec<String> {
+    let mut words = Vec::new(rt.alloc());
     for word in line.split(' ') {
-        words.push(String::from_str(alloc, word)?)?;
+        let word = String::from_str(rt.alloc(), word).expect(rt, "memory");
+        words.push(word).expect(rt, "memory");
     }
-    Ok(words)
+    words
+}
+
+// As it is called. Nothing of its contract is needed here: a test compares as it runs.
+fn called<H: Shelf, K: Sink>(
+    alloc: Global,
+    words: &[String],
+    shelf: &mut H,
+    out: &mut K,
+) -> Status {
+    report(alloc, words, shelf, out)
 }
 
 // The status has this text and number, and so much was written.
@@ -55,55 +66,67 @@ fn is_told(
     wanted: &[u8],
 ) {
     let (name, rule) = told(status);
-    assert_eq!(rt; name.len() + rule.len(), text.len());
-    assert!(rt; text.starts_with(name));
-    assert!(rt; text.ends_with(rule));
-    assert_eq!(rt; exit_number(status), number);
-    assert_eq!(rt; written, wanted);
+    assert!(rt; name.len() + rule.len() == text.len(), "{text}");
+    assert!(rt; text.starts_with(name), "{text}");
+    assert!(rt; text.ends_with(rule), "{text}");
+    assert!(rt; exit_number(status) == number, "{text}");
+    assert!(rt; written == wanted, "{text}");
+}
+
+// What `report` answers to these words over a project, and that nothing is written.
+fn is_silent(
+    rt: &(impl Abort + AllocGlobal),
+    words: &str,
+    project: &[u8],
+    failing: Numbers,
+    text: &str,
+    number: u8,
+) {
+    let mut shelf = shelf(rt, project, failing);
+    let mut out = SteadySink::new(rt.alloc());
+    let status = called(rt.alloc(), &words_of(rt, words), &mut shelf, &mut out);
+    is_told(rt, &status, out.written(), text, number, b"");
 }
 
 // What `report p` says of these bytes.
-fn says(
-    rt: &impl Abort,
-    alloc: Global,
-    bytes: &[u8],
-    text: &str,
-    number: u8,
-    wanted: &str,
-) -> Result<(), Fail> {
-    let mut shelf = shelf(alloc, bytes, Numbers::new(alloc))?;
-    let mut out = SteadySink::new(alloc);
-    let status = report(alloc, &words_of(alloc, "p")?, &mut shelf, &mut out);
+fn says(rt: &(impl Abort + AllocGlobal), bytes: &[u8], text: &str, number: u8, wanted: &str) {
+    let mut shelf = shelf(rt, bytes, Numbers::new(rt.alloc()));
+    let mut out = SteadySink::new(rt.alloc());
+    let status = called(rt.alloc(), &words_of(rt, "p"), &mut shelf, &mut out);
     is_told(rt, &status, out.written(), text, number, wanted.as_bytes());
-    Ok(())
 }
 
-const SCRIPT: &str =
+static SCRIPT: &str =
     "{\"a1\":{\"opcode\":\"event_whenflagclicked\",\"next\":\"a2\",\"topLevel\":true},\"a2\":{\"opcode\":\"looks_show\"},\"a3\":{\"opcode\":\"pen_clear\",\"topLevel\":true}}";
 
+// What is said behind the number of scripts, of these blocks of the stage and of the sprite.
+fn loads(rt: &(impl Abort + AllocGlobal), stage: &str, blocks: &str, end: &str) {
+    let file = project(rt, stage, "\"Cat\"", blocks);
+    let text = format!(in rt.alloc(); "The project loads.\nStage and sprites: 2\nScripts: {end}");
+    let text = text.expect(rt, "memory");
+    says(rt, file.as_bytes(), "Done", 0, text.as_str());
+}
+
 #[test]
-fn projects_that_load(rt: HostRuntime) -> Result<(), Fail> {
-    let rows = [
-        ("{}", "{}", "0\nBlocks: 0\nLoose blocks, in no script: 0\n"),
-        (
-            "{}",
-            SCRIPT,
-            "1\nBlocks: 3\nLoose blocks, in no script: 1\n",
-        ),
-        (
-            SCRIPT,
-            SCRIPT,
-            "2\nBlocks: 6\nLoose blocks, in no script: 2\n",
-        ),
-    ];
-    for (stage, blocks, end) in rows {
-        let file = project(rt.alloc(), stage, "\"Cat\"", blocks)?;
-        let text = format!(in rt.alloc();
-            "The project loads.\nStage and sprites: 2\nScripts: {end}"
-        )?;
-        says(&rt, rt.alloc(), file.as_bytes(), "Done", 0, text.as_str())?;
-    }
-    Ok(())
+fn projects_that_load(rt: HostRuntime) {
+    loads(
+        &rt,
+        "{}",
+        "{}",
+        "0\nBlocks: 0\nLoose blocks, in no script: 0\n",
+    );
+    loads(
+        &rt,
+        "{}",
+        SCRIPT,
+        "1\nBlocks: 3\nLoose blocks, in no script: 1\n",
+    );
+    loads(
+        &rt,
+        SCRIPT,
+        SCRIPT,
+        "2\nBlocks: 6\nLoose blocks, in no script: 2\n",
+    );
 }
 
 static REFUSED: [(&str, &str, &str, &str, &str); 9] = [
@@ -172,48 +195,55 @@ static REFUSED: [(&str, &str, &str, &str, &str); 9] = [
     ),
 ];
 
-// The text that says so of a project that is refused.
+// The text that says so of a project that is refused: by its rule, where, why, and what to change.
 fn refused(
-    alloc: Global,
+    rt: &(impl Abort + AllocGlobal),
     rule: &str,
     place: &str,
-    why: &str,
-    change: &str,
-) -> Result<String, AllocError> {
-    format!(in alloc;
+    (why, change): (&str, &str),
+) -> String {
+    let text = format!(in rt.alloc();
         "The project does not load, by rule {rule}\nWhere: {place}\nWhy: {why}\nWhat to change: {change}\n"
-    )
+    );
+    text.expect(rt, "memory")
+}
+
+// The bytes are refused by a rule, with this text.
+fn is_refused(rt: &(impl Abort + AllocGlobal), bytes: &[u8], rule: &str, wanted: &str) {
+    let status = format!(in rt.alloc(); "BadProject {rule}").expect(rt, "memory");
+    says(rt, bytes, status.as_str(), 4, wanted);
+}
+
+type Row = (
+    &'static str,
+    &'static str,
+    &'static str,
+    &'static str,
+    &'static str,
+);
+
+fn is_refused_in_the_sprite(rt: &(impl Abort + AllocGlobal), row: &Row) {
+    let (blocks, rule, block, why, change) = row;
+    let file = project(rt, "{}", "\"Cat\"", blocks);
+    let place = format!(in rt.alloc(); "sprite \"Cat\", {block}").expect(rt, "memory");
+    let text = refused(rt, rule, place.as_str(), (why, change));
+    is_refused(rt, file.as_bytes(), rule, text.as_str());
+}
+
+fn is_refused_in_the_stage(rt: &(impl Abort + AllocGlobal), row: &Row) {
+    let (blocks, rule, block, why, change) = row;
+    let file = project(rt, blocks, "\"Cat\"", "{}");
+    let place = format!(in rt.alloc(); "stage \"Stage\", {block}").expect(rt, "memory");
+    let text = refused(rt, rule, place.as_str(), (why, change));
+    is_refused(rt, file.as_bytes(), rule, text.as_str());
 }
 
 #[test]
-fn blocks_that_are_refused(rt: HostRuntime) -> Result<(), Fail> {
-    let alloc = rt.alloc();
-    for (blocks, rule, block, why, change) in &REFUSED {
-        let status = format!(in alloc; "BadProject {rule}")?;
-        let file = project(alloc, "{}", "\"Cat\"", blocks)?;
-        let place = format!(in alloc; "sprite \"Cat\", {block}")?;
-        let text = refused(alloc, rule, place.as_str(), why, change)?;
-        says(
-            &rt,
-            alloc,
-            file.as_bytes(),
-            status.as_str(),
-            4,
-            text.as_str(),
-        )?;
-        let file = project(alloc, blocks, "\"Cat\"", "{}")?;
-        let place = format!(in alloc; "stage \"Stage\", {block}")?;
-        let text = refused(alloc, rule, place.as_str(), why, change)?;
-        says(
-            &rt,
-            alloc,
-            file.as_bytes(),
-            status.as_str(),
-            4,
-            text.as_str(),
-        )?;
+fn blocks_that_are_refused(rt: HostRuntime) {
+    for row in &REFUSED {
+        is_refused_in_the_sprite(&rt, row);
+        is_refused_in_the_stage(&rt, row);
     }
-    Ok(())
 }
 
 static BYTES: [(&str, &str, &str, &str, &str); 4] = [
@@ -248,153 +278,106 @@ static BYTES: [(&str, &str, &str, &str, &str); 4] = [
 ];
 
 #[test]
-fn files_that_are_refused(rt: HostRuntime) -> Result<(), Fail> {
-    let alloc = rt.alloc();
+fn files_that_are_refused(rt: HostRuntime) {
     for (bytes, rule, place, why, change) in &BYTES {
-        let status = format!(in alloc; "BadProject {rule}")?;
-        let text = refused(alloc, rule, place, why, change)?;
-        says(
-            &rt,
-            alloc,
-            bytes.as_bytes(),
-            status.as_str(),
-            4,
-            text.as_str(),
-        )?;
+        let text = refused(&rt, rule, place, (why, change));
+        is_refused(&rt, bytes.as_bytes(), rule, text.as_str());
     }
-    Ok(())
 }
 
 #[test]
-fn bytes_that_are_refused(rt: HostRuntime) -> Result<(), Fail> {
-    let alloc = rt.alloc();
-    let text = refused(
-        alloc,
-        "P1",
-        "byte 2",
-        "From that byte on the file is no UTF-8.",
-        "Take project.json out of the archive, or save the file as UTF-8.",
-    )?;
-    says(&rt, alloc, b"\"a\xFF\"", "BadProject P1", 4, text.as_str())?;
-    let deep = vec![in alloc; b'['; 257]?;
-    let text = refused(
-        alloc,
-        "P1",
-        "byte 256",
-        "The bracket at that byte opens a nesting of more than 256.",
-        "Remove what nests so deep.",
-    )?;
-    says(&rt, alloc, &deep, "BadProject P1", 4, text.as_str())?;
-    Ok(())
+fn bytes_that_are_no_utf8(rt: HostRuntime) {
+    let why = "From that byte on the file is no UTF-8.";
+    let change = "Take project.json out of the archive, or save the file as UTF-8.";
+    let text = refused(&rt, "P1", "byte 2", (why, change));
+    is_refused(&rt, b"\"a\xFF\"", "P1", text.as_str());
 }
 
-const TWO_PENS: &str =
+#[test]
+fn brackets_that_nest_too_deep(rt: HostRuntime) {
+    let why = "The bracket at that byte opens a nesting of more than 256.";
+    let change = "Remove what nests so deep.";
+    let text = refused(&rt, "P1", "byte 256", (why, change));
+    let deep = vec![in rt.alloc(); b'['; 257].expect(&rt, "memory");
+    is_refused(&rt, &deep, "P1", text.as_str());
+}
+
+static TWO_PENS: &str =
     "{\"s1\":{\"opcode\":\"event_whenflagclicked\",\"next\":\"s2\",\"topLevel\":true},\"s2\":{\"opcode\":\"pen_penDown\",\"next\":\"s3\"},\"s3\":{\"opcode\":\"pen_clear\"}}";
 
 // Touching with its menu and a pen in a script, and a drum that lies loose.
-const TOUCHING: &str =
+static TOUCHING: &str =
     "{\"a1\":{\"opcode\":\"event_whenflagclicked\",\"next\":\"a2\",\"topLevel\":true},\"a2\":{\"opcode\":\"control_if\",\"next\":\"a4\",\"inputs\":{\"CONDITION\":[2,\"a3\"]}},\"a3\":{\"opcode\":\"sensing_touchingobject\",\"inputs\":{\"TOUCHINGOBJECTMENU\":[1,\"m1\"]}},\"m1\":{\"opcode\":\"sensing_touchingobjectmenu\",\"fields\":{\"TOUCHINGOBJECTMENU\":[\"_mouse_\"]},\"shadow\":true},\"a4\":{\"opcode\":\"pen_penDown\"},\"a5\":{\"opcode\":\"music_playDrumForBeats\",\"topLevel\":true}}";
 
 #[test]
-fn blocks_that_are_not_known(rt: HostRuntime) -> Result<(), Fail> {
-    let alloc = rt.alloc();
-    let file = project(alloc, TWO_PENS, "\"Cat\"", TOUCHING)?;
-    let text = refused(
-        alloc,
-        "P5",
-        "stage \"Stage\", block \"s2\", opcode \"pen_penDown\"",
-        "The player does not know the block.",
-        "Take the block out of the script; where it lies loose it does no harm.\nNot known, in scripts: \"pen_penDown\" 2\nNot known, in scripts: \"pen_clear\" 1\nNot known, in scripts: \"sensing_touchingobject\" 1",
-    )?;
-    says(
-        &rt,
-        alloc,
-        file.as_bytes(),
-        "BadProject P5",
-        4,
-        text.as_str(),
-    )?;
-    Ok(())
+fn blocks_that_are_not_known(rt: HostRuntime) {
+    let file = project(&rt, TWO_PENS, "\"Cat\"", TOUCHING);
+    let place = "stage \"Stage\", block \"s2\", opcode \"pen_penDown\"";
+    let why = "The player does not know the block.";
+    let change =
+        "Take the block out of the script; where it lies loose it does no harm.\nNot known, in scripts: \"pen_penDown\" 2\nNot known, in scripts: \"pen_clear\" 1\nNot known, in scripts: \"sensing_touchingobject\" 1";
+    let text = refused(&rt, "P5", place, (why, change));
+    is_refused(&rt, file.as_bytes(), "P5", text.as_str());
+}
+
+static OWN_NEXT: &str = "{\"a\\rb\":{\"opcode\":\"looks_show\",\"next\":\"a\\rb\"}}";
+
+#[test]
+fn names_are_quoted(rt: HostRuntime) {
+    let file = project(&rt, "{}", "\"a\\\\b\\nc\"", OWN_NEXT);
+    let place = "sprite \"a\\\\b\\nc\", block \"a\\rb\", opcode \"looks_show\"";
+    let why = "The links from the block lead back to it.";
+    let change = "Cut the link, and build the loop by a forever or a repeat.";
+    let text = refused(&rt, "P7", place, (why, change));
+    is_refused(&rt, file.as_bytes(), "P7", text.as_str());
 }
 
 #[test]
-fn names_are_quoted(rt: HostRuntime) -> Result<(), Fail> {
-    let alloc = rt.alloc();
-    let file = project(
-        alloc,
-        "{}",
-        "\"a\\\\b\\nc\"",
-        "{\"a\\rb\":{\"opcode\":\"looks_show\",\"next\":\"a\\rb\"}}",
-    )?;
-    let text = refused(
-        alloc,
-        "P7",
-        "sprite \"a\\\\b\\nc\", block \"a\\rb\", opcode \"looks_show\"",
-        "The links from the block lead back to it.",
-        "Cut the link, and build the loop by a forever or a repeat.",
-    )?;
-    says(
-        &rt,
-        alloc,
-        file.as_bytes(),
-        "BadProject P7",
-        4,
-        text.as_str(),
-    )?;
-    Ok(())
-}
-
-#[test]
-fn words_that_are_not_one_name(rt: HostRuntime) -> Result<(), Fail> {
-    let alloc = rt.alloc();
-    let file = project(alloc, "{}", "\"Cat\"", "{}")?;
+fn words_that_are_not_one_name(rt: HostRuntime) {
+    let file = project(&rt, "{}", "\"Cat\"", "{}");
     for words in ["p p", "report p", "p "] {
-        let mut shelf = shelf(alloc, file.as_bytes(), Numbers::new(alloc))?;
-        let mut out = SteadySink::new(alloc);
-        let status = report(alloc, &words_of(alloc, words)?, &mut shelf, &mut out);
-        is_told(&rt, &status, out.written(), "Usage", 1, b"");
+        let steady = Numbers::new(rt.alloc());
+        is_silent(&rt, words, file.as_bytes(), steady, "Usage", 1);
     }
-    let mut shelf = shelf(alloc, file.as_bytes(), Numbers::new(alloc))?;
-    let mut out = SteadySink::new(alloc);
-    let status = report(alloc, &Vec::new(alloc), &mut shelf, &mut out);
+}
+
+#[test]
+fn no_word_is_no_name(rt: HostRuntime) {
+    let mut shelf = shelf(&rt, b"", Numbers::new(rt.alloc()));
+    let mut out = SteadySink::new(rt.alloc());
+    let status = called(rt.alloc(), &[], &mut shelf, &mut out);
     is_told(&rt, &status, out.written(), "Usage", 1, b"");
-    Ok(())
 }
 
 #[test]
-fn files_that_are_not_fetched(rt: HostRuntime) -> Result<(), Fail> {
-    let alloc = rt.alloc();
-    let file = project(alloc, "{}", "\"Cat\"", "{}")?;
+fn files_that_are_not_fetched(rt: HostRuntime) {
+    let file = project(&rt, "{}", "\"Cat\"", "{}");
     for (words, failing) in [("p", 0), ("missing", 9)] {
-        let mut calls = Numbers::new(alloc);
-        calls.push(failing)?;
-        let mut shelf = shelf(alloc, file.as_bytes(), calls)?;
-        let mut out = SteadySink::new(alloc);
-        let status = report(alloc, &words_of(alloc, words)?, &mut shelf, &mut out);
-        is_told(&rt, &status, out.written(), "ReadFault", 2, b"");
+        let mut calls = Numbers::new(rt.alloc());
+        calls.push(failing).expect(&rt, "memory");
+        is_silent(&rt, words, file.as_bytes(), calls, "ReadFault", 2);
     }
-    Ok(())
 }
 
 #[test]
-fn a_project_above_its_limit(rt: HostRuntime) -> Result<(), Fail> {
-    let large = vec![in rt.alloc(); b' '; 33_554_433]?;
-    says(&rt, rt.alloc(), &large, "TooLarge", 8, "")?;
-    Ok(())
+fn a_project_above_its_limit(rt: HostRuntime) {
+    let large = vec![in rt.alloc(); b' '; 33_554_433].expect(&rt, "memory");
+    says(&rt, &large, "TooLarge", 8, "");
+}
+
+// The first write fails after so many bytes.
+fn is_cut(rt: &(impl Abort + AllocGlobal), project: &[u8], kept: u64, written: &[u8]) {
+    let mut shelf = shelf(rt, project, Numbers::new(rt.alloc()));
+    let mut fails = Pairs::new(rt.alloc());
+    fails.push((0, kept)).expect(rt, "memory");
+    let mut out = MemorySink::new(rt.alloc(), fails);
+    let status = called(rt.alloc(), &words_of(rt, "p"), &mut shelf, &mut out);
+    is_told(rt, &status, out.written(), "WriteFault", 3, written);
 }
 
 #[test]
-fn a_write_that_fails(rt: HostRuntime) -> Result<(), Fail> {
-    let alloc = rt.alloc();
-    let file = project(alloc, "{}", "\"Cat\"", "{}")?;
-    let rows: [(u64, &[u8]); 2] = [(0, b""), (3, b"The")];
-    for (kept, written) in rows {
-        let mut shelf = shelf(alloc, file.as_bytes(), Numbers::new(alloc))?;
-        let mut fails = Pairs::new(alloc);
-        fails.push((0, kept))?;
-        let mut out = MemorySink::new(alloc, fails);
-        let status = report(alloc, &words_of(alloc, "p")?, &mut shelf, &mut out);
-        is_told(&rt, &status, out.written(), "WriteFault", 3, written);
-    }
-    Ok(())
+fn a_write_that_fails(rt: HostRuntime) {
+    let file = project(&rt, "{}", "\"Cat\"", "{}");
+    is_cut(&rt, file.as_bytes(), 0, b"");
+    is_cut(&rt, file.as_bytes(), 3, b"The");
 }

@@ -14,6 +14,3 @@ mod sight;
 
 pub use reporting::reported;
 pub use sight::{Sight, contents, variable};
-
-#[cfg(test)]
-mod tests;

@@ -8,6 +8,3 @@ mod telling;
 mod threads;
 
 pub use loading::load;
-
-#[cfg(test)]
-mod tests;

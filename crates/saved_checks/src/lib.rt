@@ -21,6 +21,3 @@ mod standing;
 mod thread_places;
 
 pub use checking::broken_rule;
-
-#[cfg(test)]
-mod tests;

@@ -4,6 +4,3 @@
 mod laws;
 
 pub use laws::{a_compact_text_is_utf8, a_compact_text_reads_back};
-
-#[cfg(test)]
-mod tests;

@@ -14,6 +14,3 @@ mod waiting;
 
 pub use reading::levels_of;
 pub use waiting::Waiting;
-
-#[cfg(test)]
-mod tests;

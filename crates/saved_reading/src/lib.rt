@@ -10,6 +10,3 @@ mod threads;
 mod values;
 
 pub use run::read_run;
-
-#[cfg(test)]
-mod tests;

@@ -4,8 +4,6 @@
 
 mod laws;
 mod refusals;
-#[cfg(test)]
-mod tests;
 
 pub use laws::{
     a_legal_thread_is_accepted, a_saved_run_tells_its_world, a_thread_that_is_accepted_is_legal,

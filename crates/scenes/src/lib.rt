@@ -7,6 +7,3 @@ mod questions;
 
 pub use bubbles::{empty_bubble, update_bubble};
 pub use questions::{drop_questions, first_taken, show_first_question};
-
-#[cfg(test)]
-mod tests;

@@ -15,6 +15,3 @@ pub use number::{Num, Raw, of_millionths, of_whole, order};
 pub use reading::of_text;
 pub use whole::{abs, ceiling, floor, round};
 pub use writing::{NumText, write_text};
-
-#[cfg(test)]
-mod tests;

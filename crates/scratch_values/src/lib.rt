@@ -22,6 +22,3 @@ pub use index::{Index, list_index};
 pub use names::{ResolvedField, VarName, VarRef};
 pub use params::Params;
 pub use value::{Value, ValueLists, Values};
-
-#[cfg(test)]
-mod tests;

@@ -33,6 +33,3 @@ pub use threads::{
     Context, Control, Count, Filter, GlideState, Report, Serials, Status, WaitState, Which,
 };
 pub use variables::{Made, MadeList, Shown, Store, Stores};
-
-#[cfg(test)]
-mod tests;

@@ -12,6 +12,3 @@ pub use counting::{Counted, CounterFull};
 pub use rand_core::Rng;
 pub use seeding::pcg;
 pub use stops::{CounterKind, Stop};
-
-#[cfg(test)]
-mod tests;

@@ -4,6 +4,3 @@
 mod run;
 
 pub use run::Run;
-
-#[cfg(test)]
-mod tests;

@@ -34,6 +34,3 @@ pub use by_name::{
 };
 pub use fault::Fault;
 pub use place::Place;
-
-#[cfg(test)]
-mod tests;

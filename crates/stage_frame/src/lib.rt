@@ -18,6 +18,3 @@ mod writer;
 pub use frame::View;
 pub use text::frame_text;
 pub use writer::FrameWriter;
-
-#[cfg(test)]
-mod tests;

@@ -33,6 +33,3 @@ pub use script_machine::{
     VariableRecords,
 };
 pub use targets::read_targets;
-
-#[cfg(test)]
-mod tests;

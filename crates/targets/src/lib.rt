@@ -16,6 +16,3 @@ pub use script_machine::{
     Bubble, BubbleText, Edges, Effect, Effects, Instance, InstanceId, Say, Style, TargetId,
 };
 pub use state::Targets;
-
-#[cfg(test)]
-mod tests;

@@ -16,6 +16,3 @@ pub use parts::ThreadPart;
 pub use stops::PushStop;
 pub use thread::Thread;
 pub use threads::Threads;
-
-#[cfg(test)]
-mod tests;

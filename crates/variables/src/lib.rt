@@ -11,6 +11,3 @@ mod store;
 pub use parts::VariableParts;
 pub use script_machine::{Made, MadeList, Shown, Store, Stores};
 pub use state::{Truths, Variables};
-
-#[cfg(test)]
-mod tests;

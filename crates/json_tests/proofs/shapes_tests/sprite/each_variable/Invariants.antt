@@ -1,0 +1,10 @@
+use Rattle.std.proofs.Common.{◌≡◌, drop, map}
+use Rattle.project_json.specs.View.{field}
+use Rattle.shapes.specs.Shapes.{each_member}
+use Rattle.shapes.specs.Each.{after}
+use Rattle.shapes.specs.Example.{variable_of}
+use Rattle.json_tests.proofs.shapes_tests.sprite.each_variable.Given as goal
+
+-- the variables so far, and those that are left
+abbrev pub invariant-loop-member : goal.invariant-loop-member
+invariant-loop-member l = after l.variables.items (each_member variable_of l.place (map field (drop l.member-index l.members))) ≡ each_member variable_of l.place (map field l.members)

@@ -1,8 +1,0 @@
-use Rattle.std.proofs.Common.{rules, ◌≡◌, true, sym, ◌∙◌}
-use Rattle.looks_blocks.proofs.Once.{one_each_tested}
-use Rattle.looks_blocks.proofs.tests.check_numbers.Goals as goal
-
-pub returns : goal.returns
-returns g c =
-    let counted : c.are_counted_once.result ≡ true = search rules in
-    one_each_tested c.args.targets.now (sym (simp c.instances.ensures at c.are_counted_once.ensures) ∙ counted)

@@ -1,0 +1,65 @@
+//! Levels and threads that are made again.
+
+use super::{CAT, DOG, FIRST, FLAG, INNER, KEY, SPRITE, block_at, serial_at, status_at};
+use script_machine::{Context, Serial, Status, Which};
+use thread_frames::{Level, Levels, ThreadPart, Threads};
+
+// The last level that is given is the top one.
+#[test]
+fn levels_are_made_from_the_bottom(rt: HostRuntime) {
+    let mut given = Vec::new(rt.alloc());
+    for block in [FIRST, INNER] {
+        let level = Level {
+            block,
+            is_loop: false,
+            warp: true,
+            context: Context::Fresh,
+            params: None,
+        };
+        given.push(level).expect(&rt, "memory");
+    }
+    let levels = Levels::from_vec(given);
+    assert_eq!(rt; levels.depth(), 2);
+    assert!(rt;
+        levels
+            .top()
+            .is_some_and(|level| level.block == INNER && level.warp)
+    );
+}
+
+// A thread of the dog that waits for the next pass, with two levels, and then one of the cat that is done.
+#[test]
+fn threads_are_made_from_their_parts(rt: HostRuntime) {
+    let mut levels = Levels::new(rt.alloc());
+    levels.push(FIRST, false).expect(&rt, "memory");
+    levels.push(INNER, false).expect(&rt, "memory");
+    let dog = ThreadPart {
+        serial: Serial(11),
+        of: DOG,
+        target: SPRITE,
+        hat: KEY,
+        status: Status::YieldTick,
+        levels,
+    };
+    let cat = ThreadPart {
+        serial: Serial(10),
+        of: CAT,
+        target: SPRITE,
+        hat: FLAG,
+        status: Status::Done,
+        levels: Levels::new(rt.alloc()),
+    };
+    let mut parts = Vec::new(rt.alloc());
+    parts.push(dog).expect(&rt, "memory");
+    parts.push(cat).expect(&rt, "memory");
+    let threads = Threads::rebuild(rt.alloc(), parts).expect(&rt, "memory");
+    assert_eq!(rt; threads.len(), 2);
+    assert_eq!(rt; threads.levels(), 2);
+    assert_eq!(rt; threads.slot_of_hat(CAT, FLAG), Some(1));
+    assert_eq!(rt; serial_at(&threads, Which::Slot(0)), Some(Serial(11)));
+    assert_eq!(rt;
+        status_at(&threads, Which::Slot(0)),
+        Some(Status::YieldTick)
+    );
+    assert_eq!(rt; block_at(&threads, Which::Slot(0), 0), INNER);
+}

@@ -1,0 +1,17 @@
+//! Tests of lists, numbers, words, values, links and the table of opcodes, by worked rows.
+#![tactic(auto)]
+
+#[cfg(test)]
+mod link_graph_tests;
+#[cfg(test)]
+mod lists_tests;
+#[cfg(test)]
+mod opcode_table_tests;
+#[cfg(test)]
+mod scratch_number_tests;
+#[cfg(test)]
+mod scratch_values_tests;
+#[cfg(test)]
+mod script_machine_tests;
+#[cfg(test)]
+mod script_words_tests;
