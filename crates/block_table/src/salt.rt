@@ -12,7 +12,7 @@ pub struct Salted {
 
 impl Salted {
     /// The salt of the names of these members.
-    pub fn of(members: &[Member]) -> Salted {
+    pub(crate) fn of(members: &[Member]) -> Salted {
         let mut start = DefaultHasher::new();
         for member in members {
             start.write(member.name().as_str().as_bytes());

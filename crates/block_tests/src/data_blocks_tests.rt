@@ -5,7 +5,7 @@ use opcode_table::Opcode;
 use project_json::{Text, read as read_json};
 use scratch_number::{Num, of_millionths, of_whole};
 use scratch_values::{Arg, Args, BoundText, Held, ResolvedField, Value, VarRef, to_number};
-use script_machine::{Control, InstanceId};
+use script_machine::InstanceId;
 use script_words::{Counted, Rng, Stop, pcg};
 use std::alloc::{AllocError, Global};
 use std::process::Abort;
@@ -105,7 +105,7 @@ fn executed<R: Rng + Drop>(
     op: Opcode,
     (here, what): (InstanceId, VarRef),
     (index, item): (Given, Given),
-) -> Result<(Control, bool), Stop> {
+) -> Result<(), Stop> {
     let fields = fields(rt, what);
     let names = (name(rt, "VALUE"), name(rt, "INDEX"), name(rt, "ITEM"));
     let (index, item) = (value(rt, index), value(rt, item));
@@ -148,7 +148,7 @@ fn executed_by_one(
     )
 }
 
-// Executes a block, which goes on and requests no redraw.
+// Executes a block, which does not stop.
 fn run<R: Rng + Drop>(
     rt: &(impl Abort + AllocGlobal),
     world: &mut World,
@@ -158,9 +158,7 @@ fn run<R: Rng + Drop>(
     inputs: (Given, Given),
 ) {
     let row = executed(rt, world, words, op, block, inputs);
-    let (control, redraw) = row.expect(rt, "no stop");
-    assert!(rt; matches!(control, Control::Next));
-    assert!(rt; !redraw);
+    row.expect(rt, "no stop");
 }
 
 // The numbers of the items of a list of an instance.

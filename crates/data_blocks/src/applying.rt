@@ -1,6 +1,6 @@
 //! A block of data executed.
 
-ghost use Rattle.std.specs.Prelude.{◌≡◌, [], ◌∷◌, OnOk, IfOk, IfErr, false};
+ghost use Rattle.std.specs.Prelude.{◌≡◌, [], ◌∷◌, OnOk, IfErr, false};
 ghost use Rattle.scratch_values.specs.Args.{arguments};
 ghost use Rattle.scratch_values.specs.Held.{pair_of};
 ghost use Rattle.script_machine.specs.DataRows.{data_row};
@@ -15,7 +15,7 @@ ghost use Rattle.data_blocks.specs.Stops.{IsOfWordsOrMemory};
 use crate::{list_rows, monitor_rows, variable_rows};
 use opcode_table::Opcode;
 use scratch_values::{Arg, Args, ResolvedField};
-use script_machine::{Control, InstanceId};
+use script_machine::InstanceId;
 use script_words::{Counted, Rng, Stop};
 use target_records::Records;
 use targets::Targets;
@@ -66,9 +66,10 @@ fn changed<R: Rng + Drop>(
     }
 }
 
-/// Executes a block of data of an instance: the row of its opcode (scratch-vm, blocks/scratch3_data.js). It always goes on
-/// with the next block and requests no redraw; a block of another group does nothing. `Stop` is `Counter` of the words
-/// exactly where `random` or `any` names a place of a list and 2^62 − 1 words were drawn; the only other one is `NoMemory`.
+/// Executes a block of data of an instance: the row of its opcode (scratch-vm, blocks/scratch3_data.js), behind which the
+/// next block always follows and no redraw is requested; a block of another group does nothing. `Stop` is `Counter` of the
+/// words exactly where `random` or `any` names a place of a list and 2^62 − 1 words were drawn; the only other one is
+/// `NoMemory`.
 pub fn apply<R: Rng + Drop>(
     op: Opcode,
     args: &Args<'_>,
@@ -77,17 +78,13 @@ pub fn apply<R: Rng + Drop>(
     targets: &Targets,
     variables: &mut Variables,
     words: &mut Counted<R>,
-) -> Result<(Control, bool), Stop>
-    ensures ok { IfOk result (λ r. data_row (records_in records.now) targets.now op args.entry.now here (parts_of R.stream variables.old words.old) ≡ Goes (record { parts = parts_of R.stream variables.new words.new; context = Fresh; control = r.0; redraw = r.1 })) }
+) -> Result<(), Stop>
+    ensures ok { OnOk result (data_row (records_in records.now) targets.now op args.entry.now here (parts_of R.stream variables.old words.old) ≡ Goes (record { parts = parts_of R.stream variables.new words.new; context = Fresh; control = Next; redraw = false })) }
     ensures stop { StopIs result (data_row (records_in records.now) targets.now op args.entry.now here (parts_of R.stream variables.old words.old)) }
     ensures kind { IfErr result IsOfWordsOrMemory }
-    ensures next { IfOk result (λ r. r ≡ (Next, false)) }
     ensures held { HasSameShape variables.old variables.new }
 {
-    match changed(op, args, here, records, targets, variables, words) {
-        Ok(()) => Ok((Control::Next, false)),
-        Err(stop) => Err(stop),
-    }
+    changed(op, args, here, records, targets, variables, words)
 }
 
 /// Executes a block of data that has one input: what `apply` does with this argument and the fields.

@@ -32,14 +32,6 @@ fn either(a: bool, b: bool) -> bool
     a || b
 }
 
-// Whether a row requests a redraw.
-#[inline]
-fn redraw_of(answer: (Control, bool)) -> bool
-    ensures { result ≡ answer.1 }
-{
-    answer.1
-}
-
 impl<R: Rng + Drop> State<R> {
     // The row of a block of data, which keeps nothing and goes on.
     #[inline]
@@ -64,10 +56,7 @@ impl<R: Rng + Drop> State<R> {
             &mut self.variables,
             &mut self.words,
         ) {
-            Ok(answer) => {
-                self.redraw = either(self.redraw, redraw_of(answer));
-                Ok(())
-            }
+            Ok(()) => Ok(()),
             Err(stop) => Err(stop),
         }
     }

@@ -11,39 +11,16 @@ mod status;
 mod top;
 mod whole_numbers;
 
-ghost use Rattle.std.specs.Prelude.{◌≡◌, ◌⊎◌, IfErr, IfOk};
+ghost use Rattle.std.specs.Prelude.{◌≡◌, IfOk};
 
 use itoa::Buffer;
 use status::{Status, exit_number, told};
 use std::alloc::AllocError;
 use std::env;
-use std::io::{Eprint, ErrorKind};
+use std::io::Eprint;
 use std::process::ExitCode;
-use std::rt::Env;
-use sv_channels::{FileShelf, StdSink};
+use sv_channels::{FileShelf, StdSink, WordsError, words_of};
 use top::play;
-
-// The command's words without the program's name. Words that are not UTF-8 are no form.
-fn words_of<R: Env + AllocGlobal>(rt: &R) -> Result<Vec<String>, Status>
-    ensures usage { IfErr result (λ status. (status ≡ Status.Usage) ⊎ (status ≡ Status.NoMemory)) }
-{
-    let arguments = match env::args(rt) {
-        Ok(arguments) => arguments,
-        Err(error) => {
-            return match error.kind() {
-                ErrorKind::OutOfMemory => Err(Status::NoMemory),
-                _ => Err(Status::Usage),
-            };
-        }
-    };
-    let mut words = Vec::new(rt.alloc());
-    for word in arguments.skip(1) {
-        if words.push(word).is_err() {
-            return Err(Status::NoMemory);
-        }
-    }
-    Ok(words)
-}
 
 // The real files and the standard output.
 fn edges_of(rt: &HostRuntime) -> Result<(FileShelf<HostRuntime>, StdSink<HostRuntime>), AllocError>
@@ -55,9 +32,10 @@ fn edges_of(rt: &HostRuntime) -> Result<(FileShelf<HostRuntime>, StdSink<HostRun
 
 // Plays with real files and the standard output.
 fn run(rt: &HostRuntime) -> Status {
-    let words = match words_of(rt) {
+    let words = match words_of(rt.alloc(), env::args(rt)) {
         Ok(words) => words,
-        Err(status) => return status,
+        Err(WordsError::NotText) => return Status::Usage,
+        Err(WordsError::NoMemory) => return Status::NoMemory,
     };
     match edges_of(rt) {
         Ok((mut shelf, mut out)) => play(rt.alloc(), &words, &mut shelf, &mut out),

@@ -3,7 +3,6 @@
 use project_json::Text;
 use saved_rules::SaveRefusal;
 use std::alloc::{AllocError, AllocFailed, Global};
-use std::test::Fail;
 
 fn digits(alloc: Global, digit: char) -> Result<Text, AllocError> {
     let mut text = String::new(alloc);

@@ -6,3 +6,4 @@ pub mod Pairs
 pub mod Shelf
 pub mod Sink
 pub mod Tally
+pub mod Words

@@ -17,6 +17,7 @@ mod sink;
 #[cfg(test)]
 mod tests;
 mod transfer;
+mod words;
 
 pub use errors::{FetchError, PutError, SinkError};
 pub use files::FileShelf;
@@ -27,3 +28,4 @@ pub use numbers::{Numbers, Pairs};
 pub use output::StdSink;
 pub use shelf::Shelf;
 pub use sink::Sink;
+pub use words::{WordsError, words_of};

@@ -1,12 +1,12 @@
 use crate::transfer::{read_up_to, write_whole};
 use crate::{
     FetchError, FileShelf, MemoryShelf, MemorySink, NamedBytes, Numbers, Pairs, PutError, Shelf,
-    Sink, SinkError, StdSink, SteadySink,
+    Sink, SinkError, StdSink, SteadySink, WordsError, words_of,
 };
 use std::alloc::{AllocError, Global};
-use std::io;
 use std::io::{ErrorKind, Read, Write};
 use std::test::Fail;
+use std::{env, io};
 
 // A shelf that holds "a" twice, first with three bytes, and "b" with none.
 fn small_shelf(alloc: Global, fails: &[u64]) -> Result<MemoryShelf, AllocError> {
@@ -206,5 +206,30 @@ fn a_transfer_may_stop_half_way(rt: HostRuntime) -> Result<(), Fail> {
     let (whole, kept) = written(alloc, 2);
     assert!(rt; !whole);
     assert_eq!(rt; kept.as_slice(), b"ab".as_slice());
+    Ok(())
+}
+
+#[test]
+fn words_stand_behind_the_name(rt: HostRuntime) -> Result<(), Fail> {
+    let alloc = rt.alloc();
+    assert!(rt; words_of(alloc, env::args(&rt)).is_ok());
+    let mut arguments = Vec::new(alloc);
+    for word in ["player", "play", "cat.json"] {
+        arguments.push(String::from_str(alloc, word)?)?;
+    }
+    let words = words_of(alloc, Ok(arguments.into_iter()))?;
+    assert_eq!(rt; words.len(), 2);
+    assert_eq!(rt; words[0].as_str(), "play");
+    assert_eq!(rt; words[1].as_str(), "cat.json");
+    assert_eq!(rt; words_of(alloc, Ok(Vec::new(alloc).into_iter()))?.len(), 0);
+    for (kind, want) in [
+        (ErrorKind::InvalidData, WordsError::NotText),
+        (ErrorKind::OutOfMemory, WordsError::NoMemory),
+    ] {
+        assert_eq!(rt;
+            words_of(alloc, Err(io::Error::from(kind))).err(),
+            Some(want)
+        );
+    }
     Ok(())
 }

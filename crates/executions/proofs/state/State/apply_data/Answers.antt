@@ -1,6 +1,7 @@
 -- Data changes no instance, and gives variables to none that has none.
-use Rattle.std.proofs.Common.{refl}
+use Rattle.std.proofs.Common.{refl, false}
 use Rattle.script_machine.specs.declared.threads.Context.TheVariants.{Fresh}
+use Rattle.script_machine.specs.declared.threads.Control.TheVariants.{Next}
 use Rattle.target_records.specs.Records.{records_in}
 use Rattle.data_blocks.specs.Blocks.{parts_of}
 use Rattle.executions.proofs.Unheld.{data_none}
@@ -14,5 +15,5 @@ returns-in-Ok-clause-kept g c = record {
   targets = λ n. refl;
   one_each = λ h. h;
   free = λ n e. data_none n (records_in c.records.result.now) c.args.self.now.targets c.args.block.now.op c.args.args.now c.args.here (parts_of g.R.Rng.stream c.args.self.now.variables c.args.self.now.words)
-      (record { parts = parts_of g.R.Rng.stream c.apply.new.variables c.apply.new.words; context = Fresh; control = c.in-Ok.answer.0; redraw = c.in-Ok.answer.1 }) c.in-Ok.ensures.ok e;
+      (record { parts = parts_of g.R.Rng.stream c.apply.new.variables c.apply.new.words; context = Fresh; control = Next; redraw = false }) c.in-Ok.ensures.ok e;
 }
