@@ -137,6 +137,7 @@ fn looks_at(rt: &impl Abort, table: &BlockTable) {
 fn blocks_are_read_and_found(rt: HostRuntime) {
     let table = table(&rt, rt.alloc(), BLOCKS);
     looks_at(&rt, &table);
+    drop(table);
 }
 
 #[test]

@@ -49,7 +49,9 @@ fn refs(rt: &impl Abort, alloc: Global) -> [ListOf<Resolved>; 5] {
 
 fn cached(rt: &impl Abort, alloc: Global) -> CachedBlocks {
     let table = table(rt, alloc, BLOCKS);
-    cache_blocks(alloc, table.blocks(), &refs(rt, alloc)).expect(rt, "memory")
+    let cached = cache_blocks(alloc, table.blocks(), &refs(rt, alloc)).expect(rt, "memory");
+    drop(table);
+    cached
 }
 
 fn is_text(operand: Option<&Operand>, text: &str) -> bool {
@@ -98,6 +100,7 @@ fn a_menu_is_its_text_and_a_field_names_its_variable(rt: HostRuntime) {
     assert!(rt; field.text.as_str() == "n");
     assert!(rt; field.variable == Some(VarRef::Stage(3)));
     assert!(rt; set.next == Some(BlockId(2)));
+    drop(blocks);
 }
 
 #[test]
@@ -109,6 +112,7 @@ fn branches_are_found_by_their_names(rt: HostRuntime) {
     assert!(rt; choice.first == Some(BlockId(4)));
     assert!(rt; choice.second == Some(BlockId(0)));
     assert!(rt; choice.next == None);
+    drop(blocks);
 }
 
 #[test]
@@ -118,6 +122,7 @@ fn inputs_stand_in_document_order(rt: HostRuntime) {
     assert!(rt; is_text(input(equals, 0, "OPERAND2"), "1"));
     assert!(rt; is_variable(input(equals, 1, "OPERAND1"), VarRef::Stage(3)));
     assert!(rt; !equals.in_order);
+    drop(blocks);
 }
 
 #[test]
@@ -127,4 +132,5 @@ fn a_call_has_its_code_and_no_custom_block(rt: HostRuntime) {
     assert!(rt; call.code.as_str() == "jump %s");
     assert_eq!(rt; call.inputs.len(), 0);
     assert!(rt; call.first == None);
+    drop(blocks);
 }

@@ -148,4 +148,5 @@ fn names_lead_to_what_the_rule_finds(rt: HostRuntime) {
     assert!(rt; targets[0].variables.len() == 3);
     assert!(rt; targets[1].variables.len() == 3);
     assert!(rt; targets[1].lists.len() == 1);
+    drop(records);
 }

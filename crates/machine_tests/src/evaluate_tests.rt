@@ -110,6 +110,8 @@ fn inputs_are_evaluated_once_each(rt: HostRuntime) {
         let told = evaluated(&rt, &project, &stores, 0);
         assert!(rt; told.0 == Ok(of_whole(*wanted)), "{plugged}");
         assert!(rt; told.1 == *drawn, "{plugged}");
+        drop(stores);
+        drop(project);
     }
 }
 
@@ -123,4 +125,6 @@ fn no_word_is_left(rt: HostRuntime) {
     };
     assert!(rt; told == Err(full));
     assert!(rt; drawn == (1 << 62) - 1);
+    drop(stores);
+    drop(project);
 }

@@ -57,6 +57,8 @@ fn a_script_has_a_turn_in_each_pass(rt: HostRuntime) {
     }
     assert!(rt; framed(&rt, &mut state, &project, 0) == of_whole(30));
     assert_eq!(rt; state.frame, 1);
+    drop(state);
+    drop(project);
 }
 
 #[test]
@@ -66,4 +68,6 @@ fn an_edge_hat_is_started_once_while_it_is_true(rt: HostRuntime) {
     assert!(rt; framed(&rt, &mut state, &project, 50) == of_whole(0));
     assert!(rt; framed(&rt, &mut state, &project, 51) == of_whole(1));
     assert!(rt; framed(&rt, &mut state, &project, 100) == of_whole(1));
+    drop(state);
+    drop(project);
 }

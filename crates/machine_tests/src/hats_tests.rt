@@ -66,9 +66,11 @@ fn started(
     requires { next.old < 2 ^ 62 }
     ensures { next.new < 2 ^ 62 }
 {
-    let targets = Targets::open(alloc, project.records())?;
     let filter = filter_of(alloc, hats)?;
-    match start(alloc, project, &targets, threads, next, running, &filter) {
+    let targets = Targets::open(alloc, project.records())?;
+    let serials = start(alloc, project, &targets, threads, next, running, &filter);
+    drop(targets);
+    match serials {
         Ok(serials) => Ok(serials.len()),
         Err(_) => Err(AllocError),
     }
@@ -89,7 +91,9 @@ fn rows_of_hats_without_threads(rt: HostRuntime) {
             *want
         );
         assert_eq!(rt; next.wrapping_sub(7), count as u64);
+        drop(threads);
     }
+    drop(project);
 }
 
 #[test]
@@ -105,7 +109,9 @@ fn rows_of_hats_beside_threads(rt: HostRuntime) {
             shown(alloc, &threads).expect(&rt, "memory").as_str(),
             *want
         );
+        drop(threads);
     }
+    drop(project);
 }
 
 #[test]
@@ -122,6 +128,8 @@ fn a_thread_that_is_done_does_not_keep_its_hat(rt: HostRuntime) {
         shown(alloc, &threads).expect(&rt, "memory").as_str(),
         " 7:1/4 8:1/4"
     );
+    drop(threads);
+    drop(project);
 }
 
 #[test]
@@ -150,6 +158,8 @@ fn the_running_thread_is_detached(rt: HostRuntime) {
             .is_some_and(|thread| thread.serial() == Serial(8))
     );
     assert_eq!(rt; threads.levels(), 4);
+    drop(threads);
+    drop(project);
 }
 
 #[test]
@@ -176,6 +186,9 @@ fn no_number_is_left(rt: HostRuntime) {
         ),
     }
     assert_eq!(rt; threads.len(), 0);
+    drop(threads);
+    drop(targets);
+    drop(project);
 }
 
 // Edge hats in order, each as its instance, its target and its block.
@@ -217,6 +230,9 @@ fn edge_hats_without_a_thread(rt: HostRuntime) {
         listed(alloc, &again).expect(&rt, "memory").as_str(),
         " 2:2/2 1:1/7"
     );
+    drop(threads);
+    drop(targets);
+    drop(project);
 }
 
 #[test]

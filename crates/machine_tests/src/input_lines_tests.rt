@@ -109,6 +109,21 @@ fn shown(alloc: Global, threads: &Threads) -> Result<String, AllocError> {
     Ok(text)
 }
 
+// The threads behind two more lines.
+fn threads_then(
+    state: &mut State<Pcg32>,
+    alloc: Global,
+    project: &Project,
+    first: Act,
+    then: Act,
+) -> Result<String, AllocError>
+    requires { IsIdle project.now state.old }
+{
+    apply(state, alloc, project, line(first))?;
+    apply(state, alloc, project, line(then))?;
+    shown(alloc, &state.threads)
+}
+
 // The threads behind two lines, from the start of a run on.
 fn threads_behind(
     alloc: Global,
@@ -117,9 +132,9 @@ fn threads_behind(
     then: Act,
 ) -> Result<String, AllocError> {
     let mut state = opened(alloc, project)?;
-    apply(&mut state, alloc, project, line(first))?;
-    apply(&mut state, alloc, project, line(then))?;
-    shown(alloc, &state.threads)
+    let told = threads_then(&mut state, alloc, project, first, then);
+    drop(state);
+    told
 }
 
 #[test]
@@ -138,6 +153,7 @@ fn lines_start_their_hats(rt: HostRuntime) {
         let threads = threads_behind(rt.alloc(), &project, first, then).expect(&rt, "memory");
         assert_eq!(rt; threads.as_str(), want);
     }
+    drop(project);
 }
 
 // Three lines.
@@ -180,6 +196,8 @@ fn lines_set_the_devices(rt: HostRuntime) {
     assert_eq!(rt; state.devices.mouse_y(), -4);
     assert!(rt; state.devices.button());
     assert!(rt; state.devices.turbo());
+    drop(state);
+    drop(project);
 }
 
 // One pass.
@@ -251,4 +269,6 @@ fn an_answer_goes_to_the_thread_that_asked(rt: HostRuntime) {
     assert_eq!(rt; shown.as_str(), "7");
     apply(&mut state, alloc, &project, Line::Flag).expect(&rt, "memory");
     assert_eq!(rt; state.devices.last_answer().as_str(), "");
+    drop(state);
+    drop(project);
 }

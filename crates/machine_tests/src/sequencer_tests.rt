@@ -57,4 +57,6 @@ fn a_run_moves_a_line_at_a_time(rt: HostRuntime) {
     assert_eq!(rt; run.redraw(), false);
     assert_eq!(rt; run.targets().instances().len(), 1);
     assert_eq!(rt; run.devices().turbo(), false);
+    drop(run);
+    drop(project);
 }

@@ -93,6 +93,7 @@ fn levels_are_opened_and_given_up(rt: HostRuntime) {
     assert_eq!(rt; levels.depth(), 0);
     levels.restart(FIRST).expect(&rt, "memory");
     assert_eq!(rt; levels.depth(), 1);
+    drop(levels);
 }
 
 #[test]
@@ -106,6 +107,7 @@ fn a_level_keeps_what_it_is_given(rt: HostRuntime) {
     assert!(rt; matches!(context, Context::Repeat(Count::Whole(3))));
     let left = levels.take_context();
     assert!(rt; matches!(left, Context::Fresh));
+    drop(levels);
 }
 
 #[test]
@@ -120,6 +122,7 @@ fn parameters_are_seen_from_above(rt: HostRuntime) {
             .params()
             .is_some_and(|params| params.value("n").is_some())
     );
+    drop(levels);
 }
 
 #[test]
@@ -133,6 +136,7 @@ fn a_script_is_left_up_to_its_call(rt: HostRuntime) {
     assert!(rt; levels.top().is_some_and(|level| level.block == FIRST));
     assert!(rt; !levels.unwind());
     assert_eq!(rt; levels.depth(), 0);
+    drop(levels);
 }
 
 #[test]

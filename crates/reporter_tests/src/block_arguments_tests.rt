@@ -105,4 +105,5 @@ fn fields_are_read_by_their_names(rt: HostRuntime) {
         index: 0,
     };
     assert!(rt; held_at(&args, "OTHER", InstanceId(9), &records) == first);
+    drop(records);
 }

@@ -217,7 +217,10 @@ fn gives_in(rt: &(impl Abort + AllocGlobal), world: &World, asked: Asked, wanted
 
 // The same in the world that begins.
 fn gives(rt: &(impl Abort + AllocGlobal), asked: Asked, wanted: Given) -> bool {
-    gives_in(rt, &opened(rt), asked, wanted)
+    let world = opened(rt);
+    let is_given = gives_in(rt, &world, asked, wanted);
+    drop(world);
+    is_given
 }
 
 // The row at a place of a table holds.
@@ -322,4 +325,5 @@ fn a_parameter_is_told(rt: HostRuntime) {
     let sight = sight(&world, Some(&params));
     let four = (Given::Of(4_000_000), 0);
     hold(&rt, picks(&rt, &sight, asked, (0, 0), four), 0);
+    drop(world);
 }

@@ -91,6 +91,7 @@ fn is_written_as_before(rt: &(impl Abort + AllocGlobal), project: &Project, text
             assert!(rt; seed == want);
             let again = written(rt.alloc(), &run, DIGEST, seed).expect(rt, "memory");
             assert!(rt; again.as_slice() == text.as_bytes(), "{text}");
+            drop(run);
         }
         Err(_) => panic!(rt; "{text} is refused"),
     }
@@ -103,6 +104,7 @@ fn a_run_that_is_loaded_is_written_as_before(rt: HostRuntime) {
         let text = SAVED.replace(rt.alloc(), *part, instead);
         is_written_as_before(&rt, &project, text.expect(&rt, "memory").as_str(), *want);
     }
+    drop(project);
 }
 
 // How far Cat is after one more frame.
@@ -138,9 +140,11 @@ fn a_run_that_is_loaded_goes_on(rt: HostRuntime) {
             assert!(rt; framed(&rt, &mut run, &project, 1000) == of_whole(100));
             assert!(rt; run.threads().len() == 0);
             assert!(rt; run.frame_number() == 4);
+            drop(run);
         }
         Err(_) => panic!(rt; "refused"),
     }
+    drop(project);
 }
 
 // A refusal and what it carries.
@@ -162,7 +166,10 @@ fn told(alloc: Global, refusal: &SaveRefusal) -> Result<String, AllocError> {
 // What is said of a text.
 fn said(alloc: Global, project: &Project, text: &[u8]) -> Result<String, AllocError> {
     match load(alloc, project, &DIGEST, text) {
-        Ok((_run, seed)) => format!(in alloc; "loaded {seed}"),
+        Ok((run, seed)) => {
+            drop(run);
+            format!(in alloc; "loaded {seed}")
+        }
         Err(refusal) => told(alloc, &refusal),
     }
 }
@@ -232,6 +239,7 @@ fn changes_of_the_run_are_refused(rt: HostRuntime) {
         let text = SAVED.replace(rt.alloc(), *part, instead);
         is_said(&rt, &project, text.expect(&rt, "memory").as_str(), want);
     }
+    drop(project);
 }
 
 // So many opening and closing brackets.
@@ -253,4 +261,5 @@ fn brackets_nest_at_most_127_deep(rt: HostRuntime) {
     is_said(&rt, &project, deep.as_str(), "Shape ");
     let deeper = brackets(rt.alloc(), 128).expect(&rt, "memory");
     is_said(&rt, &project, deeper.as_str(), "Json");
+    drop(project);
 }

@@ -152,6 +152,7 @@ fn is_told(rt: &(impl Abort + AllocGlobal), run: &ToldRun, want: &str) {
     let project = project(rt);
     let member = broken_rule(rt.alloc(), &project, run).expect(rt, "memory");
     assert!(rt; member.unwrap_or("none") == want, "{want}");
+    drop(project);
 }
 
 #[test]
@@ -168,6 +169,7 @@ fn tells_devices_and_counters(rt: HostRuntime) {
     is_told(&rt, &run, "timer");
     run.clock = 9_000_000_000_001;
     is_told(&rt, &run, "clock");
+    drop(run);
 }
 
 // Names, held beside the left arrow and A, and what is told.
@@ -185,6 +187,7 @@ fn tells_keys(rt: HostRuntime) {
         let mut run = good_run(&rt);
         add_key(&rt, &mut run, name);
         is_told(&rt, &run, want);
+        drop(run);
     }
 }
 
@@ -205,6 +208,7 @@ fn tells_monitors_and_numbers(rt: HostRuntime) {
     is_told(&rt, &run, "next");
     run.drawn = 4_611_686_018_427_387_904;
     is_told(&rt, &run, "drawn");
+    drop(run);
 }
 
 #[test]
@@ -216,6 +220,7 @@ fn tells_instances(rt: HostRuntime) {
     is_told(&rt, &run, "none");
     add_instance(&rt, &mut run, 3);
     is_told(&rt, &run, "instances");
+    drop(run);
 }
 
 #[test]
@@ -224,6 +229,7 @@ fn the_stage_and_each_number_stand_once(rt: HostRuntime) {
     let mut run = good_run(&rt);
     add_instance(&rt, &mut run, 1);
     is_told(&rt, &run, "instances");
+    drop(run);
 }
 
 // Adds a bubble timer of Cat, with the usage 3.
@@ -252,6 +258,7 @@ fn tells_questions_and_timers(rt: HostRuntime) {
     };
     run.questions.push(question).expect(&rt, "memory");
     is_told(&rt, &run, "questions");
+    drop(run);
 }
 
 #[test]
@@ -261,6 +268,7 @@ fn tells_threads(rt: HostRuntime) {
     is_told(&rt, &run, "none");
     add_thread(&rt, &mut run, 5, 3);
     is_told(&rt, &run, "threads");
+    drop(run);
 }
 
 #[test]
@@ -268,4 +276,5 @@ fn a_number_of_a_thread_stands_once(rt: HostRuntime) {
     let mut run = good_run(&rt);
     add_thread(&rt, &mut run, 7, 1);
     is_told(&rt, &run, "threads");
+    drop(run);
 }

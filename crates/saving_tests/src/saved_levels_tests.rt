@@ -79,10 +79,12 @@ fn made(
     top: u64,
 ) -> Result<Option<Levels>, AllocError> {
     let alloc = rt.alloc();
-    let project = project(rt);
     let waiting = Waiting::new(alloc, clock, &[], timers)?;
     let thread = thread(alloc, name, top)?;
-    levels_of(alloc, &project, &waiting, thread, TargetId(1))
+    let project = project(rt);
+    let levels = levels_of(alloc, &project, &waiting, thread, TargetId(1));
+    drop(project);
+    levels
 }
 
 #[test]

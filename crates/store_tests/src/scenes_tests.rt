@@ -71,6 +71,8 @@ fn updates_of_bubbles_are_numbered(rt: HostRuntime) {
     has_bubble(&rt, &targets, ANN, (Say::Think, "three", 3));
     has_bubble(&rt, &targets, BEN, (Say::Think, "two", 2));
     assert_eq!(rt; devices.usage(), 4);
+    drop(devices);
+    drop(targets);
 }
 
 #[test]
@@ -83,6 +85,8 @@ fn an_empty_bubble_has_its_kind(rt: HostRuntime) {
     }
     has_bubble(&rt, &targets, ANN, (Say::Think, "", 2));
     has_bubble(&rt, &targets, BEN, (Say::Say, "", 3));
+    drop(devices);
+    drop(targets);
 }
 
 #[test]
@@ -97,6 +101,8 @@ fn the_next_question_is_shown_where_the_first_is_dropped(rt: HostRuntime) {
     has_bubble(&rt, &targets, ANN, (Say::Say, "", 2));
     has_bubble(&rt, &targets, BEN, (Say::Say, "Ben?", 3));
     assert_eq!(rt; devices.questions().len(), 1);
+    drop(devices);
+    drop(targets);
 }
 
 #[test]
@@ -107,6 +113,8 @@ fn nothing_is_shown_where_a_later_question_is_dropped(rt: HostRuntime) {
     drop_questions(rt.alloc(), &mut targets, &mut devices, BEN).expect(&rt, "a number");
     assert_eq!(rt; devices.questions().len(), 1);
     assert_eq!(rt; devices.usage(), 1);
+    drop(devices);
+    drop(targets);
 }
 
 // The first question was taken away, and one that is shown as the prompt has no bubble.
@@ -119,4 +127,6 @@ fn a_question_that_was_taken_leaves_an_empty_bubble(rt: HostRuntime) {
     has_bubble(&rt, &targets, BEN, (Say::Say, "", 0));
     first_taken(rt.alloc(), &mut targets, &mut devices, false, ANN).expect(&rt, "a number");
     assert_eq!(rt; devices.usage(), 2);
+    drop(devices);
+    drop(targets);
 }

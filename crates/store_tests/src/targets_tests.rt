@@ -71,6 +71,8 @@ fn the_stage_is_first_and_sprites_follow_by_layer(rt: HostRuntime) {
     assert!(rt; is_order(&targets, &[STAGE, BEN, ANN]));
     assert_eq!(rt; targets.sprite_named(&records, "Ben"), Some(BEN));
     assert_eq!(rt; targets.sprite_named(&records, "Stage"), None);
+    drop(targets);
+    drop(records);
 }
 
 #[test]
@@ -95,6 +97,7 @@ fn an_instance_is_changed(rt: HostRuntime) {
     assert!(rt; targets.set_visible(ANN, false));
     assert!(rt; !targets.set_direction(ANN, of_whole(450)));
     assert!(rt; !targets.set_style(ANN, Style::LeftRight));
+    drop(targets);
 }
 
 #[test]
@@ -106,6 +109,7 @@ fn an_instance_is_dressed(rt: HostRuntime) {
     assert_eq!(rt; ghost_of(&rt, &targets, ANN), of_whole(0));
     assert!(rt; targets.set_costume(ANN, of_whole(7), 2));
     assert!(rt; targets.set_bubble(ANN, Say::Think, BubbleText::new(rt.alloc()), 5));
+    drop(targets);
 }
 
 #[test]
@@ -133,6 +137,8 @@ fn a_clone_is_made_and_disposed_of(rt: HostRuntime) {
     assert!(rt; is_order(&targets, &[STAGE, CLONE, BEN, ANN]));
     targets.dispose(CLONE);
     assert!(rt; is_order(&targets, &[STAGE, BEN, ANN]));
+    drop(targets);
+    drop(records);
 }
 
 #[test]
@@ -145,6 +151,7 @@ fn clones_end_with_everything(rt: HostRuntime) {
     assert!(rt; is_order(&targets, &[STAGE, ANN, BEN, CLONE]));
     targets.stop_all(3);
     assert!(rt; is_order(&targets, &[STAGE, ANN, BEN]));
+    drop(targets);
 }
 
 #[test]
@@ -159,6 +166,7 @@ fn an_edge_value_is_recorded(rt: HostRuntime) {
         .expect(&rt, "memory");
     assert_eq!(rt; second, Some(true));
     targets.clear_edges();
+    drop(targets);
 }
 
 #[test]
@@ -167,6 +175,8 @@ fn the_stage_alone_is_the_stage(rt: HostRuntime) {
     let targets = Targets::open(rt.alloc(), &records).expect(&rt, "memory");
     assert!(rt; targets.is_on_stage(&records, STAGE));
     assert!(rt; !targets.is_on_stage(&records, BEN));
+    drop(targets);
+    drop(records);
 }
 
 #[test]
@@ -181,6 +191,7 @@ fn an_instance_that_is_not_live_is_not_changed(rt: HostRuntime) {
     targets.dispose(CLONE);
     assert!(rt; is_order(&targets, &[STAGE, BEN, ANN]));
     assert_eq!(rt; size_of(&rt, &targets, BEN), of_whole(100));
+    drop(targets);
 }
 
 #[test]
@@ -198,4 +209,5 @@ fn instances_are_found_whatever_their_layer(rt: HostRuntime) {
         let clone = targets.get(InstanceId(number * 100)).expect(&rt, "live");
         assert_eq!(rt; clone.x, of_whole(number as i64));
     }
+    drop(targets);
 }

@@ -52,6 +52,7 @@ fn a_variable_is_set_and_changed(rt: HostRuntime) {
     variables.set(STAGE, 0, Value::Number(of_whole(2)));
     variables.change(STAGE, 0, of_whole(3));
     assert_eq!(rt; number_of(&variables, STAGE), of_whole(5));
+    drop(variables);
 }
 
 #[test]
@@ -72,6 +73,7 @@ fn a_list_takes_and_loses_items(rt: HostRuntime) {
     );
     variables.clear(STAGE, 0);
     assert_eq!(rt; variables.items(STAGE, 0).len(), 0);
+    drop(variables);
 }
 
 #[test]
@@ -92,6 +94,7 @@ fn what_is_not_held_reads_as_nothing_and_stays_so(rt: HostRuntime) {
         assert_eq!(rt; to_number(variables.value(of, 1)), of_whole(0));
         assert_eq!(rt; variables.items(of, 1).len(), 0);
     }
+    drop(variables);
 }
 
 #[test]
@@ -112,6 +115,7 @@ fn a_clone_has_variables_of_its_own(rt: HostRuntime) {
     variables.copy_for_clone(STAGE, CLONE).expect(&rt, "memory");
     assert!(rt; variables.has_store(CLONE));
     assert!(rt; !variables.has_value(CLONE, 0));
+    drop(variables);
 }
 
 #[test]
@@ -126,6 +130,8 @@ fn monitors_are_hidden_and_added(rt: HostRuntime) {
         .show(&records, Shown::List(TargetId(0), 0), true)
         .expect(&rt, "memory");
     assert_eq!(rt; variables.made().len(), 1);
+    drop(variables);
+    drop(records);
 }
 
 #[test]

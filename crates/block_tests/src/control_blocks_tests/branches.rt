@@ -26,6 +26,7 @@ fn a_condition_decides(rt: HostRuntime) {
         let absent = said(&rt, &mut world, *op, ANN, ("OTHER", Truth(true)));
         assert_eq!(rt; absent, *fails, "{op:?}");
     }
+    drop(world);
 }
 
 // How often a repeat of a number enters its branch, up to 10 times.
@@ -70,6 +71,7 @@ fn a_repeat_takes_its_rounded_number_of_turns(rt: HostRuntime) {
     for (times, want) in &REPEATS {
         assert_eq!(rt; turns(&rt, &mut world, *times), *want, "{times:?}");
     }
+    drop(world);
 }
 
 // The number is read once, when the loop begins.
@@ -90,6 +92,7 @@ fn a_repeat_keeps_its_first_number(rt: HostRuntime) {
         assert_eq!(rt; word(&control), want);
     }
     assert!(rt; matches!(context, Context::Repeat(_)));
+    drop(world);
 }
 
 #[test]
@@ -107,4 +110,5 @@ fn a_block_of_another_group_goes_on_and_keeps_nothing(rt: HostRuntime) {
     assert!(rt; matches!(control, Control::Next));
     assert!(rt; matches!(context, Context::Fresh));
     assert!(rt; !redraw);
+    drop(world);
 }

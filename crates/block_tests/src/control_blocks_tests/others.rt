@@ -26,6 +26,7 @@ fn an_option_tells_what_is_stopped(rt: HostRuntime) {
         let told = said(&rt, &mut world, Opcode::ControlStop, ANN, input);
         assert_eq!(rt; told, *want, "{option}");
     }
+    drop(world);
 }
 
 // Names of what is cloned, by Ben; the stage is no sprite, and names are exact.
@@ -48,6 +49,7 @@ fn a_clone_is_made_of_a_sprite_by_name(rt: HostRuntime) {
     let input = ("OTHER", Of(0));
     let told = said(&rt, &mut world, Opcode::ControlDeleteThisClone, BEN, input);
     assert_eq!(rt; told, "delete");
+    drop(world);
 }
 
 // The number of the first parameter with a name.
@@ -84,6 +86,7 @@ fn a_call_enters_the_procedure_of_its_target(rt: HostRuntime) {
     let back = called(&rt, &mut world, ANN, &mut context);
     assert_eq!(rt; word(&back), "next");
     assert!(rt; matches!(context, Context::Fresh));
+    drop(world);
 }
 
 #[test]
@@ -95,4 +98,5 @@ fn a_call_of_no_procedure_goes_on(rt: HostRuntime) {
         assert_eq!(rt; word(&control), "next");
         assert!(rt; matches!(context, Context::Fresh));
     }
+    drop(world);
 }

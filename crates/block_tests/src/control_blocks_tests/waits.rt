@@ -51,6 +51,7 @@ fn a_wait_yields_until_its_time_is_over(rt: HostRuntime) {
         let last = waited(&rt, &mut world, *end, *duration, &mut context);
         assert!(rt; last == ("next", false), "{duration:?}");
         assert!(rt; matches!(context, Context::Fresh));
+        drop(world);
     }
 }
 
@@ -103,6 +104,7 @@ fn a_broadcast_waits_for_the_threads_that_it_started(rt: HostRuntime) {
         world.threads.set_status(Which::Slot(2), *second);
         assert_eq!(rt; awaited(&rt, &mut world), *want, "{first:?} {second:?}");
     }
+    drop(world);
 }
 
 fn is_broadcast(hats: &Filter, message: &str) -> bool {
@@ -131,6 +133,7 @@ fn a_broadcast_starts_the_hats_of_its_message(rt: HostRuntime) {
         }
         assert!(rt; matches!(context, Context::Fresh));
     }
+    drop(world);
 }
 
 // A question of an instance, and whether a redraw is requested.
@@ -160,6 +163,7 @@ fn the_first_question_is_shown(rt: HostRuntime) {
             .get(1)
             .is_some_and(|q| q.bubble && q.thread.0 == 7)
     );
+    drop(world);
 }
 
 // The stage and a hidden sprite ask by the prompt.
@@ -171,6 +175,7 @@ fn a_question_that_is_no_bubble_requests_no_redraw(rt: HostRuntime) {
         assert_eq!(rt; world.devices.usage(), 1);
         let questions = world.devices.questions();
         assert!(rt; questions.get(0).is_some_and(|q| !q.bubble));
+        drop(world);
     }
 }
 
@@ -185,4 +190,5 @@ fn the_timer_begins_at_the_clock(rt: HostRuntime) {
     assert!(rt; matches!(control, Control::Next));
     assert!(rt; !redraw);
     assert_eq!(rt; world.devices.timer_start(), 500);
+    drop(world);
 }

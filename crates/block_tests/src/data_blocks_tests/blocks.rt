@@ -47,6 +47,7 @@ fn a_variable_is_set_and_changed(rt: HostRuntime) {
         to_number(world.variables.value(STAGE, 0)),
         of_millionths(-500_000)
     );
+    drop(world);
 }
 
 // Two sprites each add their own name.
@@ -73,6 +74,7 @@ fn names_are_added_in_order(rt: HostRuntime) {
             name
         );
     }
+    drop(world);
 }
 
 // Shows and hides, with whether the monitor of the file is visible and what was added behind each.
@@ -107,6 +109,7 @@ fn monitors_are_shown_hidden_and_added(rt: HostRuntime) {
         },
     ];
     assert_eq!(rt; world.variables.made().as_slice(), made.as_slice());
+    drop(world);
 }
 
 // The blocks of lists, with the items behind each.
@@ -163,6 +166,7 @@ fn a_list_takes_and_loses_items(rt: HostRuntime) {
         all,
     );
     has_items(&rt, &world, &[]);
+    drop(world);
 }
 
 fn filled(rt: &(impl Abort + AllocGlobal), world: &mut World) {
@@ -198,6 +202,7 @@ fn a_full_list_grows_no_more(rt: HostRuntime) {
         let counted = items.iter().filter(|item| **item == Value::Truth(true));
         assert_eq!(rt; counted.count(), truths);
     }
+    drop(world);
 }
 
 #[test]
@@ -221,6 +226,7 @@ fn what_is_not_held_stays_so(rt: HostRuntime) {
         assert_eq!(rt; to_number(world.variables.value(ANN, 0)), of_whole(0));
         has_items(&rt, &world, &[]);
     }
+    drop(world);
 }
 
 #[test]
@@ -257,4 +263,5 @@ fn no_word_is_left(rt: HostRuntime) {
         assert!(rt; matches!(row, Err(stop) if stop == full));
         has_items(&rt, &world, &[0]);
     }
+    drop(world);
 }

@@ -40,4 +40,5 @@ fn one_input_is_enough(rt: HostRuntime) {
     )
     .expect(&rt, "no stop");
     has_items(&rt, &world, &[3]);
+    drop(world);
 }

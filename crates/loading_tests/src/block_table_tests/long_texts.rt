@@ -75,5 +75,6 @@ fn a_text_at_the_limit_is_read(rt: HostRuntime) {
         let text = with_text(rt.alloc(), before, 0, behind).expect(&rt, "memory");
         let table = table(&rt, rt.alloc(), text.as_str());
         assert_eq!(rt; table.len(), 1);
+        drop(table);
     }
 }

@@ -39,6 +39,7 @@ fn records_are_those_of_the_file_and_what_was_added(rt: HostRuntime) {
     let added = sprite.variables.get(2).expect(&rt, "variable");
     assert_eq!(rt; added.name.name.as_str(), "new");
     assert!(rt; added.name.id.is_none());
+    drop(records);
 }
 
 #[test]
@@ -58,4 +59,5 @@ fn monitors_are_those_of_the_file(rt: HostRuntime) {
     assert!(rt; second.sprite.is_none());
     assert!(rt; !second.visible);
     assert!(rt; member(&second.params, "VARIABLE").is_none());
+    drop(records);
 }

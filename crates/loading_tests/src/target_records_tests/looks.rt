@@ -187,5 +187,6 @@ fn a_look_is_kept_in_its_range(rt: HostRuntime) {
             *sprite,
             "{members}"
         );
+        drop(records);
     }
 }

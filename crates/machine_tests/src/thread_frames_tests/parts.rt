@@ -62,4 +62,5 @@ fn threads_are_made_from_their_parts(rt: HostRuntime) {
         Some(Status::YieldTick)
     );
     assert_eq!(rt; block_at(&threads, Which::Slot(0), 0), INNER);
+    drop(threads);
 }

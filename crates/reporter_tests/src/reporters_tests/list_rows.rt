@@ -235,7 +235,9 @@ fn is_item(
     assert!(rt; count <= 5);
     let world = with_items(rt, &numbers[..count]);
     let asked = of_one(Opcode::DataItemOfList, LIST, ("INDEX", place));
-    picks(rt, &sight(&world, None), asked, words, wanted)
+    let is_picked = picks(rt, &sight(&world, None), asked, words, wanted);
+    drop(world);
+    is_picked
 }
 
 #[test]

@@ -266,7 +266,9 @@ fn is_distance(
     place(rt, &mut world, BEN, other.0, other.1);
     let input = ("DISTANCETOMENU", Text(to));
     let asked = of_one(Opcode::SensingDistanceTo, NO_FIELD, input);
-    gives_in(rt, &world, asked, wanted)
+    let is_given = gives_in(rt, &world, asked, wanted);
+    drop(world);
+    is_given
 }
 
 #[test]

@@ -210,7 +210,10 @@ fn is_picked(
     wanted: (Given, u64),
 ) -> bool {
     let asked = of_two(Opcode::OperatorRandom, ("FROM", "TO"), bounds);
-    picks(rt, &sight(&opened(rt), None), asked, words, wanted)
+    let world = opened(rt);
+    let is_picked = picks(rt, &sight(&world, None), asked, words, wanted);
+    drop(world);
+    is_picked
 }
 
 #[test]
@@ -232,4 +235,5 @@ fn no_word_is_left(rt: HostRuntime) {
         which: CounterKind::Words,
     };
     hold(&rt, told == Err(full), 0);
+    drop(world);
 }

@@ -46,6 +46,7 @@ fn a_size_is_kept_in_its_range(rt: HostRuntime) {
             size_of(&rt, &world, STAGE) == number(100_000_000),
             "row {at}"
         );
+        drop(world);
     }
 }
 
@@ -147,6 +148,7 @@ fn an_effect_is_named_without_case(rt: HostRuntime) {
         assert!(rt; run(&rt, &mut world, op, ANN, given), "row {at}");
         let own = world.targets.get(ANN).expect(&rt, "a sprite");
         assert!(rt; own.effects.get(*effect) == number(*want), "row {at}");
+        drop(world);
     }
 }
 
@@ -171,6 +173,7 @@ fn an_effect_of_another_name_is_none(rt: HostRuntime) {
     );
     let stage = world.targets.get(STAGE).expect(&rt, "the stage");
     assert!(rt; stage.effects.get(Effect::Ghost) == number(0));
+    drop(world);
 }
 
 #[test]
@@ -185,6 +188,7 @@ fn a_sprite_is_shown_and_hidden(rt: HostRuntime) {
         );
         assert!(rt; !run(&rt, &mut world, op, STAGE, none));
     }
+    drop(world);
 }
 
 // The sprites in the order of their layers, once a block is executed.
@@ -205,7 +209,9 @@ fn layered(
     assert!(rt; redraw == (here != STAGE));
     let order = world.targets.order();
     let place = |at: usize| order.get(at).expect(rt, "a sprite").0;
-    [place(1), place(2), place(3)]
+    let places = [place(1), place(2), place(3)];
+    drop(world);
+    places
 }
 
 // The number of an instance, the way and how far, and the order then: the sprites 1, 2 and 3 stand in these layers, and 0 is
@@ -257,4 +263,5 @@ fn commands_of_sound_do_nothing(rt: HostRuntime) {
     ] {
         assert!(rt; !run(&rt, &mut world, op, ANN, given));
     }
+    drop(world);
 }

@@ -44,6 +44,7 @@ fn a_bubble_shows_two_decimals(rt: HostRuntime) {
         let own = world.targets.get(ANN).expect(&rt, "a sprite");
         assert!(rt; own.bubble.text.as_str() == *text, "row {at}");
     }
+    drop(world);
 }
 
 #[test]
@@ -55,6 +56,7 @@ fn a_bubble_is_cut(rt: HostRuntime) {
     assert_eq!(rt; bubble.kind, Say::Think);
     assert_eq!(rt; bubble.usage, 1);
     assert_eq!(rt; bubble.text.as_str().len(), 332);
+    drop(world);
 }
 
 // 331 characters, the first of which has three bytes.
@@ -91,4 +93,5 @@ fn a_timed_bubble_waits_for_its_timer(rt: HostRuntime) {
         assert!(rt; timer.of == ANN && timer.thread.0 == 7, "row {at}");
         assert!(rt; timer.usage == bubble_usage(&rt, &world, ANN), "row {at}");
     }
+    drop(world);
 }

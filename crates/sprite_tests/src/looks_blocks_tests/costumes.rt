@@ -112,6 +112,7 @@ fn a_costume_is_chosen_by_a_value(rt: HostRuntime) {
         let given = (NO_FIELD, [("COSTUME", *asked), NO_INPUT]);
         run(&rt, &mut world, Opcode::LooksSwitchCostumeTo, ANN, given);
         assert!(rt; costume_of(&rt, &world, ANN) == *want, "row {at}");
+        drop(world);
     }
 }
 
@@ -205,6 +206,7 @@ fn a_backdrop_is_chosen_by_a_value(rt: HostRuntime) {
         assert!(rt; redraw, "row {at}");
         assert!(rt; costume_of(&rt, &world, STAGE) == want, "row {at}");
         assert_eq!(rt; words.drawn(), after, "row {at}");
+        drop(world);
     }
 }
 
@@ -221,6 +223,7 @@ fn hats_are_started_for_the_present_backdrop(rt: HostRuntime) {
     let (control, redraw) = executed(&rt, &mut world, &mut words, op, ANN, given, &mut context);
     assert!(rt; redraw && starts(&control, "b2", false));
     assert!(rt; matches!(context, Context::Fresh));
+    drop(world);
 }
 
 #[test]
@@ -243,6 +246,7 @@ fn a_switch_waits_for_the_threads_that_it_started(rt: HostRuntime) {
         assert!(rt; matches!(context, Context::Started(_)));
         assert_eq!(rt; costume_of(&rt, &world, STAGE), 0);
     }
+    drop(world);
 }
 
 #[test]
@@ -253,4 +257,5 @@ fn the_next_costume_is_wrapped(rt: HostRuntime) {
         assert!(rt; run(&rt, &mut world, Opcode::LooksNextCostume, ANN, given));
         assert_eq!(rt; costume_of(&rt, &world, ANN), want);
     }
+    drop(world);
 }

@@ -139,6 +139,7 @@ fn a_glide_is_where_the_clock_says(rt: HostRuntime) {
             matches!(context, Context::Glide(_)) == yielding,
             "row {place}"
         );
+        drop(world);
     }
 }
 
@@ -189,6 +190,7 @@ fn a_glide_that_begins_stays_and_one_of_no_time_is_over(rt: HostRuntime) {
             matches!(context, Context::Glide(_)) == *yielding,
             "row {place}"
         );
+        drop(world);
     }
 }
 
@@ -209,4 +211,5 @@ fn a_glide_to_a_sprite_ends_where_that_was(rt: HostRuntime) {
     assert!(rt; is_at(&rt, &world, ANN, 40_000_000, -20_000_000));
     let nowhere = [("SECS", Of(1_000_000)), ("TO", Text("Cat")), NO_INPUT];
     assert!(rt; yields(&rt, &mut world, op, nowhere, &mut context) == (false, false));
+    drop(world);
 }

@@ -78,6 +78,7 @@ fn a_sprite_goes_to_the_place_of_a_name(rt: HostRuntime) {
         assert!(rt; matches!(control, Control::Next), "row {at}");
         assert!(rt; is_at(&rt, &world, ANN, end_x, end_y), "row {at}");
         assert_eq!(rt; words.drawn(), after, "row {at}");
+        drop(world);
     }
 }
 
@@ -132,6 +133,7 @@ fn a_sprite_points_towards_another(rt: HostRuntime) {
         let given = ("", [("TOWARDS", CAT_NAME), NO_INPUT, NO_INPUT]);
         run(&rt, &mut world, Opcode::MotionPointTowards, ANN, given);
         assert!(rt; direction(&rt, &world) == number(*want), "row {at}");
+        drop(world);
     }
 }
 
@@ -145,4 +147,5 @@ fn a_random_direction_takes_one_word(rt: HostRuntime) {
     let (_, redraw) = executed(&rt, &mut world, &mut words, op, ANN, given, &mut context);
     assert!(rt; redraw);
     assert_eq!(rt; words.drawn(), 6);
+    drop(world);
 }

@@ -125,6 +125,7 @@ fn a_sprite_moves_and_turns(rt: HostRuntime) {
         assert!(rt; run(&rt, &mut world, op, ANN, given), "row {at}");
         assert!(rt; is_at(&rt, &world, ANN, after[0], after[1]), "row {at}");
         assert!(rt; direction(&rt, &world) == number(after[2]), "row {at}");
+        drop(world);
     }
 }
 
@@ -136,6 +137,7 @@ fn the_stage_does_nothing(rt: HostRuntime) {
         let given = ("", [inputs.0, inputs.1, NO_INPUT]);
         assert!(rt; !run(&rt, &mut world, op, STAGE, given), "row {at}");
         assert!(rt; is_at(&rt, &world, STAGE, 0, 0), "row {at}");
+        drop(world);
     }
 }
 
@@ -145,6 +147,7 @@ fn a_hidden_sprite_requests_no_redraw(rt: HostRuntime) {
     let given = ("", [("X", Of(7_000_000)), NO_INPUT, NO_INPUT]);
     assert!(rt; !run(&rt, &mut world, Opcode::MotionSetX, CAT, given));
     assert!(rt; is_at(&rt, &world, CAT, 7_000_000, 0));
+    drop(world);
 }
 
 // The text of a rotation style, the style, and whether a redraw is requested.
@@ -165,4 +168,5 @@ fn a_rotation_style_is_set_by_its_name(rt: HostRuntime) {
         let own = world.targets.get(ANN).expect(&rt, "a sprite");
         assert!(rt; own.style == *style, "{text}");
     }
+    drop(world);
 }

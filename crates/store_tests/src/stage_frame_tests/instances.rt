@@ -80,6 +80,7 @@ fn a_clone_speaks_and_asks(rt: HostRuntime) {
     let value = text_value(&rt, "01234567890123456789");
     world.variables.set(InstanceId(1), 0, value);
     assert_eq!(rt; told(&rt, &world).as_slice(), PLAYED.as_bytes());
+    drop(world);
 }
 
 #[test]
@@ -91,6 +92,7 @@ fn a_hidden_sprite_has_effects_and_no_bubble(rt: HostRuntime) {
     say(&rt, &mut world, CAT, "qc");
     let text = told(&rt, &world);
     assert!(rt; has(text.as_slice(), HIDDEN.as_bytes()));
+    drop(world);
 }
 
 #[test]
@@ -100,4 +102,5 @@ fn the_first_question_is_told(rt: HostRuntime) {
     ask(&rt, &mut world, "later", false);
     let text = told(&rt, &world);
     assert!(rt; has(text.as_slice(), ASKED.as_bytes()));
+    drop(world);
 }

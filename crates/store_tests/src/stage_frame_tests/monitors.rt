@@ -82,6 +82,7 @@ fn each_monitor_tells_its_value(rt: HostRuntime) {
             wanted.as_bytes(),
             "{monitor}"
         );
+        drop(world);
     }
 }
 
@@ -110,6 +111,7 @@ fn monitors_stand_in_the_order_of_the_file(rt: HostRuntime) {
     let world = opened(&rt, SEVERAL);
     let text = told(&rt, &world);
     assert!(rt; has(text.as_slice(), SEVERAL_LINES.as_bytes()));
+    drop(world);
 }
 
 fn show(rt: &(impl Abort + AllocGlobal), world: &mut World, what: Shown, visible: bool) {
@@ -124,6 +126,7 @@ fn added_monitors_have_the_name_of_their_sprite(rt: HostRuntime) {
     show(&rt, &mut world, Shown::List(TargetId(1), 0), true);
     let text = told(&rt, &world);
     assert!(rt; has(text.as_slice(), MADE_LINES.as_bytes()));
+    drop(world);
 }
 
 #[test]
@@ -135,4 +138,5 @@ fn a_monitor_that_is_hidden_tells_nothing(rt: HostRuntime) {
     let text = told(&rt, &world);
     assert!(rt; has(text.as_slice(), b"\nmonitor \"n\" \"a\"\nend\n"));
     assert!(rt; !has(text.as_slice(), b"list"));
+    drop(world);
 }

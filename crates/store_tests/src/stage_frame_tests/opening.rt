@@ -18,6 +18,7 @@ end
 fn the_base_project_opens(rt: HostRuntime) {
     let world = opened(&rt, BASE);
     assert_eq!(rt; told(&rt, &world).as_slice(), OPENING.as_bytes());
+    drop(world);
 }
 
 #[test]
