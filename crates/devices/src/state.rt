@@ -28,7 +28,6 @@ use std::mem;
 const LAST: u64 = (1 << 62) - 1;
 
 /// The devices of a run. Contracts see the record of the reference machine.
-#[derive(Drop)]
 pub struct Devices {
     alloc: Global,
     answer: BoundText,
@@ -42,6 +41,26 @@ pub struct Devices {
     timers: BubbleTimers,
     turbo: bool,
     usage: u64,
+}
+
+// Not derived: whoever holds one calls this, and does not prove anew how it is taken apart.
+impl Drop for Devices {
+    fn drop(self) {
+        let Devices {
+            alloc: _,
+            answer: _answer,
+            clock: _,
+            timer: _,
+            keys: _keys,
+            mouse_x: _,
+            mouse_y: _,
+            button: _,
+            questions: _questions,
+            timers: _timers,
+            turbo: _,
+            usage: _,
+        } = self;
+    }
 }
 
 impl Model for Devices {

@@ -20,7 +20,6 @@ use target_records::Records;
 /// A project. Each of its targets has costumes, its links lead to blocks and a rank falls along each, its blocks pass all
 /// tests of the loader, and what the blocks of checked scripts name is resolved. Contracts see its program, and of each
 /// target the blocks and what they name (specs/Loaded.antt).
-#[derive(Drop)]
 pub struct Project {
     pub(crate) records: Records,
     pub(crate) tables: Vec<BlockTable>,
@@ -30,6 +29,21 @@ pub struct Project {
     pub(crate) heads: Vec<Heads>,
     pub(crate) blocks: u32,
     pub ghost kept: { IsProjectOf (records_in records) (map (λ t. t.blocks) tables.items) links.items names cached.items heads.items blocks },
+}
+
+// Not derived: whoever holds one calls this, and does not prove anew how it is taken apart.
+impl Drop for Project {
+    fn drop(self) {
+        let Project {
+            records: _records,
+            tables: _tables,
+            links: _links,
+            names: _names,
+            cached: _cached,
+            heads: _heads,
+            blocks: _,
+        } = self;
+    }
 }
 
 // Whether it is what this part of a block names.

@@ -35,11 +35,21 @@ use target_records::Records;
 
 /// The instances in executable order. Contracts see the list of them. A call that changes one instance changes nothing, and
 /// requests no redraw that hangs on its being visible, where none of that number is live.
-#[derive(Drop)]
 pub struct Targets {
     alloc: Global,
     instances: Vec<Instance>,
     order: Order,
+}
+
+// Not derived: whoever holds one calls this, and does not prove anew how it is taken apart.
+impl Drop for Targets {
+    fn drop(self) {
+        let Targets {
+            alloc: _,
+            instances: _instances,
+            order: _order,
+        } = self;
+    }
 }
 
 impl Model for Targets {

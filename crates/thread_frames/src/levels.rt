@@ -14,9 +14,18 @@ use std::marker::Model;
 
 /// The levels of one thread. Contracts see the top one first. What acts on the top level changes nothing where there is
 /// no level.
-#[derive(Debug, Drop)]
+#[derive(Debug)]
 pub struct Levels {
     bottom_first: Vec<Level>,
+}
+
+// Not derived: whoever holds one calls this, and does not prove anew how it is taken apart.
+impl Drop for Levels {
+    fn drop(self) {
+        let Levels {
+            bottom_first: _bottom_first,
+        } = self;
+    }
 }
 
 impl Model for Levels {

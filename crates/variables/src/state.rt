@@ -33,7 +33,6 @@ pub type Truths = ListOf<bool>;
 ///
 /// Where an instance has no variable or list of a number, the variable reads as 0 and the list as one of no items, and
 /// changing it changes nothing.
-#[derive(Drop)]
 pub struct Variables {
     alloc: Global,
     stores: Vec<Store>,
@@ -42,6 +41,20 @@ pub struct Variables {
     // What is read where an instance has no such variable or list: 0, and no items.
     zero: Value,
     nothing: Values,
+}
+
+// Not derived: whoever holds one calls this, and does not prove anew how it is taken apart.
+impl Drop for Variables {
+    fn drop(self) {
+        let Variables {
+            alloc: _,
+            stores: _stores,
+            file_monitors: _file_monitors,
+            made: _made,
+            zero: _zero,
+            nothing: _nothing,
+        } = self;
+    }
 }
 
 impl Model for Variables {
