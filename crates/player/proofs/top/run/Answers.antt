@@ -12,6 +12,8 @@ use Rattle.player.specs.declared.status.Which.TheVariants as which
 use Rattle.player.proofs.Again.{play_resumable}
 use Rattle.player.proofs.Calls.{fetched_file, project_reading, after_load, always, at_load, at_accepted, at_end, all_ending, loaded_fetched, refused_cause, script_causes, unfetched_wrote, load_calls, script_calls, played_cause, played_calls}
 use Rattle.player.proofs.Ends.{none_rose_behind, put_failed_before, fault_cause, silent_cause, no_usage, writes_cause, shelved_cause, unshelved_cause, hides_nothing, steady_behind}
+use Rattle.player.proofs.Resumes.{unfetched_not_done}
+use Rattle.player.proofs.Saved.{unchanged}
 use Rattle.player.proofs.top.run.Goals as goal
 
 -- the project is refused
@@ -56,6 +58,19 @@ returns-in-Err-fetch-clause-bytes g c =
     let written = g.K.Sink.written c.args.out.now in
     always Loads (after_load form) (λ (o : Outcome). Wrote written written o.texts c.in-Err-fetch.status) held form.project
     (λ o. unfetched_wrote (Vec ℕ Global) (λ v. v.items) held form.script which.Script script_limit script_failed script_wanted c.in-Err-fetch.status written o.texts answer)
+
+pub returns-in-Err-fetch-clause-shelved : goal.returns-in-Err-fetch-clause-shelved
+returns-in-Err-fetch-clause-shelved g c =
+    let held = g.H.Shelf.held c.args.shelf.now in
+    let save = name_to_save c.args.save.now in
+    let form : Form = record { project = c.args.project.now; script = c.args.script.now; seed = c.args.seed; save = save } in
+    let script_failed = Rose (g.H.Shelf.fetch_faults c.fetch.new.shelf form.script) (g.H.Shelf.fetch_faults c.fetch-2.new.shelf form.script) in
+    let script_wanted = Rose (g.H.Shelf.wants c.fetch.new.shelf) (g.H.Shelf.wants c.fetch-2.new.shelf) in
+    let answer = subst (λ h. Fetched h form.script which.Script script_limit script_failed script_wanted {A = Vec ℕ Global} (λ v. v.items) (Err c.in-Err-fetch.status)) c.in-Ok.ensures.held c.in-Err-fetch.ensures.answer in
+    let put_failed = PutFailed (g.H.Shelf.put_faults c.args.shelf.now) (g.H.Shelf.put_faults c.fetch-2.new.shelf) save in
+    let same = c.in-Err-fetch.ensures.held ∙ c.in-Ok.ensures.held in
+    always Loads (after_load form) (λ (o : Outcome). Shelved held (g.H.Shelf.held c.fetch-2.new.shelf) put_failed save o c.in-Err-fetch.status) held form.project
+    (λ o. subst (λ h. Shelved held h put_failed save o c.in-Err-fetch.status) (sym same) (unchanged held put_failed save o c.in-Err-fetch.status (unfetched_not_done (Vec ℕ Global) (λ v. v.items) held form.script which.Script script_limit script_failed script_wanted c.in-Err-fetch.status answer)))
 
 pub returns-in-Err-fetch-clause-calls : goal.returns-in-Err-fetch-clause-calls
 returns-in-Err-fetch-clause-calls g c = (
