@@ -6,10 +6,10 @@
 #![tactic(auto)]
 
 mod bounding;
-mod fields;
+mod field_list;
 mod file_block;
 mod ids;
-mod inputs;
+mod input_list;
 mod objects;
 mod primitives;
 mod reading;
@@ -17,6 +17,8 @@ mod refusal;
 mod salt;
 mod table;
 
+pub use project_file::{Block, Blocks, Code, Fields, Input, Inputs, Link, Mutation};
 pub use reading::build;
 pub use refusal::BlockRefusal;
+pub use script_machine::BlockId;
 pub use table::{BlockTable, FileTable, read_table};

@@ -10,10 +10,10 @@ ghost use Rattle.project_file.specs.Mutation.{prototype_in, call_in};
 ghost use Rattle.block_table.specs.FileBlock.{block_in, mutation_in};
 ghost use Rattle.block_table.specs.Parts.{IsBad, is_list};
 
-use crate::fields::fields;
+use crate::field_list::fields;
 use crate::file_block::{FileBlock, FileBlocks, FileInputs, FileMutation};
 use crate::ids::Ids;
-use crate::inputs::{inputs, link_to};
+use crate::input_list::{inputs, link_to};
 use crate::primitives::{is_one_of, name_and_id, tag};
 use lists::ListOf;
 use mutations::{read_call, read_prototype};

@@ -315,12 +315,15 @@ fn a_chain_of_20_000_blocks(rt: HostRuntime) {
 }
 
 const NAMES: &str =
-    "{\"targets\":[{\"isStage\":true,\"name\":\"S\",\"costumes\":[{\"name\":\"b\"}],\"variables\":{\"v\":[\"n\",0]},\"blocks\":{}},{\"isStage\":false,\"name\":\"C\",\"costumes\":[{\"name\":\"c\"}],\"blocks\":{\"h\":{\"opcode\":\"event_whenflagclicked\",\"topLevel\":true,\"next\":\"s\"},\"s\":{\"opcode\":\"data_setvariableto\",\"inputs\":{\"VALUE\":[3,[12,\"z\",\"q\"],[10,\"\"]]},\"fields\":{\"VARIABLE\":[\"n\",\"gone\"]}}}}]}";
+    "{\"targets\":[{\"isStage\":true,\"name\":\"S\",\"costumes\":[{\"name\":\"b\"}],\"variables\":{\"v\":[\"n\",0]},\"blocks\":{}},{\"isStage\":false,\"name\":\"C\",\"costumes\":[{\"name\":\"c\"}],\"blocks\":{\"h\":{\"opcode\":\"event_whenflagclicked\",\"topLevel\":true,\"next\":\"s\"},\"s\":{\"opcode\":\"data_setvariableto\",\"inputs\":{\"VALUE\":[3,[12,\"z\",\"q\"],[10,\"\"]]},\"fields\":{\"VARIABLE\":[\"n\",\"gone\"]}},\"l\":{\"opcode\":\"data_setvariableto\",\"topLevel\":true,\"fields\":{\"VARIABLE\":[\"n\",\"v\"]}}}}]}";
 
 fn resolved(rt: &impl Abort, project: &Project) {
     assert_eq!(rt; project.target_count(), 2);
     let sprite = TargetId(1);
-    assert_eq!(rt; project.blocks(sprite).len(), 2);
+    let blocks = project.blocks(sprite);
+    assert_eq!(rt; blocks.len(), 3);
+    assert!(rt; blocks.number_of("s").is_some_and(|id| id.0 == 1));
+    assert!(rt; blocks.number_of("gone").is_none());
     let heads = project.heads(sprite);
     assert_eq!(rt; heads.len(), 1);
     let set = BlockId(1);
@@ -338,6 +341,8 @@ fn resolved(rt: &impl Abort, project: &Project) {
             .input_variable(sprite, BlockId(1_000), "VALUE")
             .is_none()
     );
+    let loose = BlockId(2);
+    assert!(rt; project.field_variable(sprite, loose, "VARIABLE").is_none());
     assert!(rt; project.block(sprite, set).next.is_none());
     assert_eq!(rt; project.records().targets(), 2);
 }

@@ -77,13 +77,9 @@ module _ (n : ℕ) (x : Table) (xs ys : List Table) (go : xs ≡ x ∷ ys) (all 
   pub table_passes : first_too_many (table_measures (blocks_place n) x) ≡ None → first_too_many (texts_from (n + 1) ys) ≡ first_too_many (texts_from 0 all)
   table_passes none = sym (first-passed (table_measures (blocks_place n) x) (texts_from (n + 1) ys) none) ∙ texts-go
 
-map_push : {A B : Type 0} (f : A → B) (xs : List A) (x : A) → map f (xs ++ x ∷ []) ≡ map f xs ++ f x ∷ []
-map_push f [] x = refl
-map_push f (y ∷ xs) x = ap (λ zs. f y ∷ zs) (map_push f xs x)
-
 -- what was bounded, and what is left
-pub bounded_more : {A B C : Type 0} (f : A → C) (g : B → C) (front new : List A) (xs ys : List B) (a : A) (b : B) (whole : List C)
-    → new ≡ front ++ a ∷ [] → f a ≡ g b → xs ≡ b ∷ ys → map f front ++ map g xs ≡ whole → map f new ++ map g ys ≡ whole
-bounded_more f g front new xs ys a b whole made same go all =
-    ap (λ zs. map f zs ++ map g ys) made ∙ ap (λ zs. zs ++ map g ys) (map_push f front a) ∙ append_assoc (map f front) (f a ∷ []) (map g ys)
-    ∙ ap (λ z. map f front ++ (z ∷ map g ys)) same ∙ ap (λ zs. map f front ++ map g zs) (sym go) ∙ all
+pub bounded_more : {A B : Type 0} (f : A → B) (front new : List B) (xs ys : List A) (b : B) (a : A) (whole : List B)
+    → new ≡ front ++ b ∷ [] → b ≡ f a → xs ≡ a ∷ ys → front ++ map f xs ≡ whole → new ++ map f ys ≡ whole
+bounded_more f front new xs ys b a whole made same go all =
+    ap (λ zs. zs ++ map f ys) made ∙ append_assoc front (b ∷ []) (map f ys) ∙ ap (λ z. front ++ (z ∷ map f ys)) same
+    ∙ ap (λ zs. front ++ map f zs) (sym go) ∙ all

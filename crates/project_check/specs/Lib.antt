@@ -5,4 +5,5 @@ pub mod Procedures
 pub mod File
 pub mod Measured
 pub mod Kept
+pub mod Told
 pub mod Loaded

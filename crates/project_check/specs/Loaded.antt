@@ -1,13 +1,11 @@
 -- What a project shows, and what loading answers.
-use Rattle.std.specs.Prelude.{◌≡◌, ℕ, Bool, false, List, map, slice_get, unwrap_or, [], Result, Ok, Err}
+use Rattle.std.specs.Prelude.{◌≡◌, ℕ, ◌<◌, ◌^◌, Bool, false, List, length, map, slice_get, unwrap_or, [], Result, Ok, Err}
 use Rattle.script_machine.specs.Program.{Program, Records}
 use Rattle.project_file.specs.declared.blocks.Block.{Block}
 use Rattle.project_file.specs.declared.blocks.Resolved.{Resolved}
-use Rattle.std.specs.List.{All}
 use Rattle.project_file.specs.Resolving.{resolved_targets}
-use Rattle.project_file.specs.Reading.{File, blocks_in}
 use Rattle.project_file.specs.Trees.{Sheet, program}
-use Rattle.project_file.specs.Refusals.{tests, Passes, IsFirstOf, TellsChecked, IsRefusal, IsAccepted, IsProgram}
+use Rattle.project_file.specs.Refusals.{IsRefusal}
 use Rattle.project_file.specs.declared.refusals.Refusal.{Refusal}
 use Rattle.project_file.specs.declared.refusals.Refusal.TheVariants as refusal
 use Rattle.project_file.specs.declared.refusals.Refusal.TheVariants.{NoMemory}
@@ -18,10 +16,15 @@ use Rattle.shapes.specs.declared.fault.Fault.TheVariants as fault
 use Rattle.target_records.specs.Records.{records_in}
 use Rattle.linked_blocks.specs.Kept.{Kept}
 use Rattle.project_check.specs.declared.project.Project.{Project}
+use Rattle.project_check.specs.Told.{IsTold}
 
 -- the blocks of each target, in file order
 abbrev pub tables_of : Project → List (List Block)
 tables_of p = map (λ t. t.blocks) p.tables.items
+
+-- the ids of the blocks of each target, each at the number of its block
+abbrev pub ids_of : Project → List (List (List ℕ))
+ids_of p = map (λ t. t.ids) p.tables.items
 
 -- what each block of each target names
 abbrev pub names_of : Project → List (List (List Resolved))
@@ -43,6 +46,10 @@ program_of p = program (tables_of p) (record { records = records_in p.records; w
 abbrev pub blocks_at : ℕ → Project → List Block
 blocks_at t p = unwrap_or (slice_get (tables_of p) t) []
 
+-- the ids of the blocks of a target
+abbrev pub ids_at : ℕ → Project → List (List ℕ)
+ids_at t p = unwrap_or (slice_get (ids_of p) t) []
+
 -- what the blocks of a target name
 abbrev pub names_at : ℕ → Project → List (List Resolved)
 names_at t p = unwrap_or (slice_get (names_of p) t) []
@@ -51,12 +58,10 @@ names_at t p = unwrap_or (slice_get (names_of p) t) []
 abbrev pub sheet_at : ℕ → Project → Sheet
 sheet_at t p = record { target = t; blocks = blocks_at t p; refs = names_at t p }
 
--- the bytes are those of a file that is accepted, which tells the project
-pub record IsLoaded (bytes : List ℕ) (p : Project) : Type 0 where
-  pub file : File
-  pub accepted : IsAccepted bytes file
-  pub tables : tables_of p ≡ blocks_in file
-  pub program : IsProgram file (program_of p)
+-- the bytes are those of a file that is accepted, which tells the project: its blocks with their ids, its program, and what
+-- each block names
+abbrev pub IsLoaded : List ℕ → Project → Type 0
+IsLoaded bytes p = IsTold bytes (records_in p.records) p.tables.items p.names
 
 -- whether a block of a target is flagged
 abbrev pub checked_by : List Kept → ℕ → ℕ → Bool
@@ -79,14 +84,12 @@ abbrev pub of_fault : Fault → Refusal
 of_fault (fault.Shape path) = refusal.Shape path
 of_fault fault.NoMemory = NoMemory
 
--- a project of these records and blocks, in which nothing is too many, or the first test that a block fails
-abbrev pub IsLinked : Records → List (List Block) → Result Project Refusal → Type 0
-IsLinked records tables (Ok p) = All (Passes tables) tests × (tables_of p ≡ tables) × ((checked : ℕ → ℕ → Bool) × TellsChecked tables checked × (program_of p ≡ program tables (resolved_targets checked 0 tables records)))
-IsLinked records tables (Err NoMemory) = Unit {0}
-IsLinked records tables (Err r) = IsFirstOf tables tests r
-
 -- a project that the bytes tell, or the one refusal; where memory ran out nothing is claimed
 abbrev pub Loads : List ℕ → Result Project Refusal → Type 0
 Loads bytes (Ok p) = IsLoaded bytes p
 Loads bytes (Err NoMemory) = Unit {0}
 Loads bytes (Err r) = IsRefusal bytes r
+
+-- every project, once in hand, is loaded of some bytes, fewer than 2^32
+abbrev pub EachIsLoaded : Type 0
+EachIsLoaded = (p : Project) → ∥ ((bytes : List ℕ) × (length bytes < 2 ^ 32) × IsLoaded bytes p) ∥₁

@@ -1,11 +1,15 @@
 -- The file in which nothing is too many, and what is told of another.
-use Rattle.std.specs.Prelude.{◌≡◌, ℕ, List, [], ◌∷◌, length, map, codes, flat_map, None, Some, Result, Ok, Err}
+use Rattle.std.specs.Prelude.{◌≡◌, ℕ, ◌<◌, ◌^◌, List, [], ◌∷◌, length, map, codes, flat_map, None, Some, Result, Ok, Err}
 use Rattle.std.specs.List.{enumerate_from}
+use Rattle.project_json.specs.Tree.{Tree}
+use Rattle.project_json.specs.Text.{IsText, max_depth}
+use Rattle.script_machine.specs.Program.{Records}
 use Rattle.project_file.specs.declared.refusals.Refusal.{Refusal}
 use Rattle.project_file.specs.declared.refusals.Refusal.TheVariants as refusal
 use Rattle.project_file.specs.Limits.{Measure, measure, most_targets, most_monitors, counts_from, table_measures, blocks_place, first_too_many, too_many}
-use Rattle.project_file.specs.Reading.{Table, File, blocks_in}
+use Rattle.project_file.specs.Reading.{Table, File, file_of}
 use Rattle.project_file.specs.Refusals.{stage_count, IsFileRefusal}
+use Rattle.block_table.specs.Table.{Numbered, numbered}
 use Rattle.block_table.specs.declared.refusal.BlockRefusal.{BlockRefusal}
 use Rattle.block_table.specs.declared.refusal.BlockRefusal.TheVariants as block_refusal
 use Rattle.target_records.specs.declared.refusal.RecordRefusal.{RecordRefusal}
@@ -60,6 +64,18 @@ of_blocks block_refusal.NoMemory = refusal.NoMemory
 
 -- the file's records and blocks, in which nothing is too many; or its refusal, before its blocks are tested
 abbrev pub IsMeasured : File → Result Measured Refusal → Type 0
-IsMeasured f (Ok m) = (stage_count f ≡ 1) × (too_many f ≡ None) × (records_in m.records ≡ f.records) × (map (λ t. t.blocks) m.tables.items ≡ blocks_in f)
+IsMeasured f (Ok m) = (stage_count f ≡ 1) × (too_many f ≡ None) × (records_in m.records ≡ f.records) × (m.tables.items ≡ map numbered f.tables)
 IsMeasured f (Err refusal.NoMemory) = Unit {0}
 IsMeasured f (Err r) = IsFileRefusal f r
+
+-- the bytes are those of a file in which nothing is too many, and these are its records and its blocks with their ids
+pub record IsRead (bytes : List ℕ) (found : Records) (held : List Numbered) : Type 0 where
+  pub small : length bytes < 2 ^ 32
+  pub document : Tree
+  pub text : IsText max_depth bytes document
+  pub file : File
+  pub tells : file_of document ≡ Ok file
+  pub stage : stage_count file ≡ 1
+  pub few : too_many file ≡ None
+  pub records : found ≡ file.records
+  pub tables : held ≡ map numbered file.tables

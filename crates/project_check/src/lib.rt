@@ -4,12 +4,15 @@
 
 mod file;
 mod heads;
+mod laws;
 mod loading;
 mod measuring;
 mod procedures;
 mod project;
 
 pub use heads::Heads;
+pub use laws::every_project_is_of_an_accepted_file;
 pub use loading::load;
 pub use procedures::Callee;
 pub use project::Project;
+pub use project_file::{At, Refusal};

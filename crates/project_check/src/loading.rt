@@ -1,11 +1,12 @@
 //! Loading a project file.
 
-ghost use Rattle.std.specs.Prelude.{◌≡◌, ◌<◌, ◌^◌, length, map, IfOk};
+ghost use Rattle.std.specs.Prelude.{◌≡◌, ◌<◌, ◌^◌, ℕ, List, length, map, IfOk};
 ghost use Rattle.std.specs.List.{All, sum_by};
 ghost use Rattle.target_records.specs.Records.{records_in};
 ghost use Rattle.name_resolving.specs.Room.{HasRoom};
 ghost use Rattle.project_check.specs.Kept.{CachesAll, IsDressed};
-ghost use Rattle.project_check.specs.Loaded.{IsLinked, Loads, Resolves, of_json, of_fault};
+ghost use Rattle.project_check.specs.Measured.{IsRead};
+ghost use Rattle.project_check.specs.Loaded.{Loads, Resolves, of_json, of_fault};
 
 use crate::file::read_file;
 use crate::heads::all_heads;
@@ -96,14 +97,15 @@ fn cache_all(
     Ok(cached)
 }
 
-// The project of records and blocks in which nothing is too many.
+// The project of records and blocks that were read, in which nothing is too many.
 fn linked(alloc: Global, mut records: Records, tables: Vec<BlockTable>) -> Result<Project, Refusal>
     requires targets { length (records_in records).targets ≡ length tables.items }
     requires dressed { All IsDressed (records_in records).targets }
     requires few { length tables.items < 2 ^ 32 }
     requires room { HasRoom (records_in records) (map (λ t. t.blocks) tables.items) }
     requires count { sum_by (λ t. length t.blocks) tables.items < 2 ^ 32 }
-    ensures { IsLinked (records_in records) (map (λ t. t.blocks) tables.items) result }
+    requires source { (bytes : List ℕ) × IsRead bytes (records_in records) tables.items }
+    ensures { (bytes : List ℕ) → IsRead bytes (records_in records) tables.items → Loads bytes result }
 {
     let links = match test_blocks(alloc, &tables) {
         Ok(links) => links,

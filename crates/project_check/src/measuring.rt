@@ -4,6 +4,7 @@ ghost use Rattle.std.specs.Prelude.{◌≡◌, map};
 ghost use Rattle.std.specs.List.{enumerate_from};
 ghost use Rattle.shapes.specs.Places.{path};
 ghost use Rattle.project_file.specs.Limits.{counts_from, table_measures, blocks_place};
+ghost use Rattle.block_table.specs.Table.{numbered};
 ghost use Rattle.project_check.specs.File.{file_in};
 ghost use Rattle.project_check.specs.Measured.{counts_in, texts_from, Measures, IsMeasured, IsTooManyAt, Bounds, of_records, of_blocks};
 
@@ -90,7 +91,7 @@ fn of_blocks(refusal: BlockRefusal) -> Refusal
 
 // The table of target t, where no text in it is too long.
 fn bounded_table(alloc: Global, t: usize, table: FileTable) -> Result<BlockTable, Refusal>
-    ensures { Bounds (λ b. b.blocks) result table.blocks (table_measures (blocks_place t) table) }
+    ensures { Bounds (λ b. b) result (numbered table) (table_measures (blocks_place t) table) }
 {
     let root = Place::root();
     let targets = root.member("targets");
@@ -103,7 +104,7 @@ fn bounded_table(alloc: Global, t: usize, table: FileTable) -> Result<BlockTable
 
 // The tables, where no text in them is too long.
 fn bounded_tables(alloc: Global, tables: Vec<FileTable>) -> Result<Vec<BlockTable>, Refusal>
-    ensures { Bounds (λ v. map (λ t. t.blocks) v.items) result (map (λ t. t.blocks) tables.items) (texts_from 0 tables.items) }
+    ensures { Bounds (λ v. v.items) result (map numbered tables.items) (texts_from 0 tables.items) }
 {
     let mut bounded = Vec::new(alloc);
     for table in tables {

@@ -4,6 +4,7 @@ ghost use Rattle.std.specs.Prelude.{◌≡◌, map};
 ghost use Rattle.target_records.specs.Records.{records_in};
 ghost use Rattle.project_file.specs.Resolving as told;
 ghost use Rattle.project_check.specs.Kept.{IsProjectOf};
+ghost use Rattle.project_check.specs.Told.{IsToldBySome};
 ghost use Rattle.project_check.specs.Parts.{is_part};
 
 use crate::heads::Heads;
@@ -18,8 +19,8 @@ use script_machine::{BlockId, TargetId};
 use target_records::Records;
 
 /// A project. Each of its targets has costumes, its links lead to blocks and a rank falls along each, its blocks pass all
-/// tests of the loader, and what the blocks of checked scripts name is resolved. Contracts see its program, and of each
-/// target the blocks and what they name (specs/Loaded.antt).
+/// tests of the loader, and what the blocks of checked scripts name is resolved. All of it is what some accepted file
+/// tells. Contracts see its program, and of each target the blocks, their ids and what they name (specs/Loaded.antt).
 pub struct Project {
     pub(crate) records: Records,
     pub(crate) tables: Vec<BlockTable>,
@@ -29,6 +30,7 @@ pub struct Project {
     pub(crate) heads: Vec<Heads>,
     pub(crate) blocks: u32,
     pub ghost kept: { IsProjectOf (records_in records) (map (λ t. t.blocks) tables.items) links.items names cached.items heads.items blocks },
+    pub ghost told: { ∥ IsToldBySome (records_in records) tables.items names ∥₁ },
 }
 
 // Not derived: whoever holds one calls this, and does not prove anew how it is taken apart.
@@ -83,7 +85,7 @@ impl Project {
     ghost use Rattle.project_check.specs.Heads.{head_numbers};
     ghost use Rattle.project_check.specs.Kept.{IsDressed};
     ghost use Rattle.project_check.specs.Procedures.{callee_at, callee_in, defines_at, procedure_in};
-    ghost use Rattle.project_check.specs.Loaded.{tables_of, program_of, blocks_at, names_at, ranks_at, sheet_at};
+    ghost use Rattle.project_check.specs.Loaded.{tables_of, program_of, blocks_at, ids_at, names_at, ranks_at, sheet_at};
 
     /// The records of its targets and monitors. Each target has a costume, and fewer than 2^32 of them.
     pub fn records(&self) -> &Records
@@ -112,6 +114,7 @@ impl Project {
     pub fn blocks(&self, target: TargetId) -> &BlockTable
         requires { target < length (tables_of self.now) }
         ensures blocks { result.now.blocks ≡ blocks_at target self.now }
+        ensures ids { result.now.ids ≡ ids_at target self.now }
         ensures closed { IsClosed (blocks_at target self.now) }
     {
         let table = &self.tables[target.0 as usize];

@@ -11,7 +11,7 @@ ghost use Rattle.project_file.specs.Values as value_of;
 ghost use Rattle.project_file.specs.Blocks as told;
 ghost use Rattle.block_table.specs.Parts.{fields_in};
 
-use crate::inputs::items_from;
+use crate::input_list::items_from;
 use project_file::{Fields, FileValue, value};
 use project_json::{Json, Member, Text, is_null};
 use scratch_values::{Value, VarName, to_text};

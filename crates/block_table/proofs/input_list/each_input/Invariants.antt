@@ -4,7 +4,7 @@ use Rattle.shapes.specs.Shapes.{each_member}
 use Rattle.shapes.specs.Each.{after}
 use Rattle.project_file.specs.Blocks.{input_of}
 use Rattle.block_table.specs.FileBlock.{named_input}
-use Rattle.block_table.proofs.inputs.each_input.Given as goal
+use Rattle.block_table.proofs.input_list.each_input.Given as goal
 
 -- the inputs so far, and those that are left
 abbrev pub invariant-loop-member : goal.invariant-loop-member

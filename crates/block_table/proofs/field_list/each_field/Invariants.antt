@@ -3,7 +3,7 @@ use Rattle.project_json.specs.View.{field}
 use Rattle.shapes.specs.Shapes.{each_member}
 use Rattle.shapes.specs.Each.{after}
 use Rattle.project_file.specs.Blocks.{field_of}
-use Rattle.block_table.proofs.fields.each_field.Given as goal
+use Rattle.block_table.proofs.field_list.each_field.Given as goal
 
 -- the fields so far, and those that are left
 abbrev pub invariant-loop-member : goal.invariant-loop-member
