@@ -1,5 +1,6 @@
 -- What is accepted as a saved run: it has its shape, breaks no rule, and each thread is well.
 use Rattle.std.proofs.Common.{◌≡◌, ℕ, zero, suc, Bool, true, false, not, List, [], ◌∷◌, bytes_eq, find, slice_get, Option, Some, None, option_map, Result, Ok, Err, if◌then◌else◌, refl, subst}
+use Rattle.std.proofs.lemmas.Slice.Eq.{bytes_eq-Decides}
 use Rattle.hex.specs.Hex.{encode_lower}
 use Rattle.serde_json.specs.Data.{Data}
 use Rattle.saved_text.specs.Saved.{saved_text}
@@ -14,26 +15,27 @@ use Rattle.saved_rules.specs.Refusals.{IsAccepted, first_difference, by_spelling
 use Rattle.saved_rules.specs.declared.refusals.SaveRefusal.TheVariants.{OtherProject}
 use Rattle.accepted_runs.proofs.Shaped.{IsShaped, run_gives}
 
--- it breaks no rule, and no thread is bad
-pub record Keeps (b : Basis) (t : Told) : Type 0 where
+-- it is of the project with this digest, breaks no rule, and no thread is bad
+pub record Keeps (b : Basis) (given : List ℕ) (t : Told) : Type 0 where
+  pub project : t.run.project ≡ given
   pub rules : broken b t ≡ None
   pub threads : bad_thread b t ≡ None
 
-kept_spelling : (b : Basis) (u t : Told) (o : Option ℕ) → Keeps b u → by_spelling u o ≡ Ok t → Keeps b t
-kept_spelling b u t None k h = let e : u ≡ t = cc in subst (Keeps b) e k
-kept_spelling b u t (Some at) k h = absurd (cc h)
+kept_spelling : (b : Basis) (given : List ℕ) (u t : Told) (o : Option ℕ) → Keeps b given u → by_spelling u o ≡ Ok t → Keeps b given t
+kept_spelling b given u t None k h = let e : u ≡ t = cc in subst (Keeps b given) e k
+kept_spelling b given u t (Some at) k h = absurd (cc h)
 
-kept_threads : (b : Basis) (bytes : List ℕ) (u t : Told) (o : Option ℕ) → broken b u ≡ None → bad_thread b u ≡ o → by_threads bytes u o ≡ Ok t → Keeps b t
-kept_threads b bytes u t None r e h = kept_spelling b u t (first_difference bytes (saved_text thread u.run)) (record { rules = r; threads = e }) h
-kept_threads b bytes u t (Some serial) r e h = absurd (cc h)
+kept_threads : (b : Basis) (given bytes : List ℕ) (u t : Told) (o : Option ℕ) → u.run.project ≡ given → broken b u ≡ None → bad_thread b u ≡ o → by_threads bytes u o ≡ Ok t → Keeps b given t
+kept_threads b given bytes u t None p r e h = kept_spelling b given u t (first_difference bytes (saved_text thread u.run)) (record { project = p; rules = r; threads = e }) h
+kept_threads b given bytes u t (Some serial) p r e h = absurd (cc h)
 
-kept_rules : (b : Basis) (bytes : List ℕ) (u t : Told) (o : Option (List ℕ)) → broken b u ≡ o → by_rules b bytes u o ≡ Ok t → Keeps b t
-kept_rules b bytes u t None e h = kept_threads b bytes u t (bad_thread b u) e refl h
-kept_rules b bytes u t (Some member) e h = absurd (cc h)
+kept_rules : (b : Basis) (given bytes : List ℕ) (u t : Told) (o : Option (List ℕ)) → u.run.project ≡ given → broken b u ≡ o → by_rules b bytes u o ≡ Ok t → Keeps b given t
+kept_rules b given bytes u t None p e h = kept_threads b given bytes u t (bad_thread b u) p e refl h
+kept_rules b given bytes u t (Some member) p e h = absurd (cc h)
 
-kept_project : (b : Basis) (given bytes : List ℕ) (u t : Told) (c : Bool) → (if c then by_rules b bytes u (broken b u) else Err (OtherProject u.run.project given)) ≡ Ok t → Keeps b t
-kept_project b given bytes u t true h = kept_rules b bytes u t (broken b u) refl h
-kept_project b given bytes u t false h = absurd (cc h)
+kept_project : (b : Basis) (given bytes : List ℕ) (u t : Told) (c : Bool) → bytes_eq u.run.project given ≡ c → (if c then by_rules b bytes u (broken b u) else Err (OtherProject u.run.project given)) ≡ Ok t → Keeps b given t
+kept_project b given bytes u t true e h = kept_rules b given bytes u t (broken b u) ((bytes_eq-Decides u.run.project given).0 e) refl h
+kept_project b given bytes u t false e h = absurd (cc h)
 
 -- and it is what the text tells
 same_spelling : (u t : Told) (o : Option ℕ) → by_spelling u o ≡ Ok t → u ≡ t
@@ -53,22 +55,22 @@ same_project b given bytes u t true h = same_rules b bytes u t (broken b u) h
 same_project b given bytes u t false h = absurd (cc h)
 
 -- all of it
-pub record Holds (b : Basis) (t : Told) : Type 0 where
+pub record Holds (b : Basis) (given : List ℕ) (t : Told) : Type 0 where
   pub shaped : IsShaped t
-  pub keeps : Keeps b t
+  pub keeps : Keeps b given t
 
-of_shape : (b : Basis) (given bytes : List ℕ) (d : Data) (r : Result Told (List ℕ)) (t : Told) → run [] d ≡ r → by_shape b given bytes r ≡ Ok t → Holds b t
+of_shape : (b : Basis) (given bytes : List ℕ) (d : Data) (r : Result Told (List ℕ)) (t : Told) → run [] d ≡ r → by_shape b given bytes r ≡ Ok t → Holds b given t
 of_shape b given bytes d (Ok u) t e h = record {
   shaped = subst IsShaped (same_project b given bytes u t (bytes_eq u.run.project given) h) (run_gives [] d u e);
-  keeps = kept_project b given bytes u t (bytes_eq u.run.project given) h;
+  keeps = kept_project b given bytes u t (bytes_eq u.run.project given) refl h;
 }
 of_shape b given bytes d (Err path) t e h = absurd (cc h)
 
-of_version : (b : Basis) (given bytes : List ℕ) (d : Data) (o : Option ℕ) (t : Told) → by_version b given bytes d o ≡ Ok t → Holds b t
+of_version : (b : Basis) (given bytes : List ℕ) (d : Data) (o : Option ℕ) (t : Told) → by_version b given bytes d o ≡ Ok t → Holds b given t
 of_version b given bytes d None t h = of_shape b given bytes d (run [] d) t refl h
 of_version b given bytes d (Some n) t h = absurd (cc h)
 
-pub holds : (b : Basis) (digest bytes : List ℕ) (t : Told) → IsAccepted b digest bytes t → Holds b t
+pub holds : (b : Basis) (digest bytes : List ℕ) (t : Told) → IsAccepted b digest bytes t → Holds b (encode_lower digest) t
 unfolding judged
 holds b digest bytes t a = of_version b (encode_lower digest) bytes a.0 (other_version a.0) t a.2
 

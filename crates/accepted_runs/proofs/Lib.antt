@@ -7,4 +7,5 @@ pub mod Stored
 pub mod Cast
 pub mod Contexts
 pub mod Threads
-pub mod Reached
+pub mod Legal
+pub mod Written

@@ -31,7 +31,7 @@ use Rattle.legal_turns.specs.Within.{IsItemWithin, IsContextWithin, IsTaskWithin
 use Rattle.legal_runs.specs.Worlds.{items_told, warp_told, task_told, world_told}
 use Rattle.saved_text.specs.Tasks.{is_marker}
 use Rattle.saved_rules.specs.Basis.{Basis, script_under}
-use Rattle.saved_rules.specs.Kept.{SavedLevel, SavedThread, kept_of, level_of, levels_of}
+use Rattle.saved_rules.specs.Kept.{SavedLevel, SavedThread, kept_of, level_of, levels_of, thread_told}
 use Rattle.saved_rules.specs.Legal.{AllStand, StandsIn}
 use Rattle.saved_rules.specs.Levels.{items_of, thread_is_well}
 use Rattle.saved_rules.specs.Rules.{target_of, is_named, is_of_hat, serials_kept, differ}
@@ -222,6 +222,12 @@ as_told : (P : Task → Type 0) (b : Basis) (t : Told) (x : SavedThread) (w : We
 as_told P b t x w h =
     subst (λ items. P (task_as x items (warp_told b t x))) (sym (items_are b t x w))
     (subst (λ warp. P (task_as x w.items warp)) (sym (warp_is b t x w)) h)
+
+-- the text of the thread that it tells tells it again
+pub told_is : (b : Basis) (t : Told) (x : SavedThread) → thread_is_well b t x ≡ true → thread_told (task_told b t x) ≡ x
+told_is b t x h =
+    let w = well b t x h in
+    as_told (λ y. thread_told y ≡ x) b t x w (ap (λ ls. record x { levels = ls }) (reads b.program w.hat x.levels w.items w.read).levels)
 
 sum_mapped : {A B : Type 0} (f : B → ℕ) (g : A → B) (h : A → ℕ) (xs : List A) → Each (λ x. f (g x) ≡ h x) xs → sum_by f (map g xs) ≡ sum_by h xs
 sum_mapped f g h [] all = refl

@@ -1,8 +1,13 @@
-//! A law of accepted saved runs, the contract of a function with an empty body.
+//! Laws of accepted saved runs, each the contract of a function with an empty body.
 
-ghost use Rattle.accepted_runs.specs.Laws.{AcceptedIsReached};
+ghost use Rattle.accepted_runs.specs.Laws.{AcceptedIsLegal, AcceptedIsWritten};
 
-/// The world that an accepted saved run tells has all that the worlds have that a run can reach.
-pub fn an_accepted_saved_run_tells_a_reached_world()
-    ensures { AcceptedIsReached }
+/// The world that an accepted saved run tells is legal.
+pub fn an_accepted_saved_run_tells_a_legal_world()
+    ensures { AcceptedIsLegal }
+{}
+
+/// Bytes that are accepted are the saved text of the world that they tell.
+pub fn an_accepted_saved_run_is_the_text_of_its_world()
+    ensures { AcceptedIsWritten }
 {}

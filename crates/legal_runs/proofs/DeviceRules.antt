@@ -1,4 +1,4 @@
--- The rules on the clock, the devices, the counters and the monitors hold of a world that a run can reach.
+-- The rules on the clock, the devices, the counters and the monitors hold of a legal world.
 use Rattle.std.proofs.Common.{◌≡◌, ℕ, ◌<◌, ◌≤◌, Bool, true, false, not, ◌&&◌, ◌||◌, List, [], ◌∷◌, map, Option, Some, None, is_some, refl, sym, ap, subst, arith}
 use Rattle.std.specs.Prelude.{nat_lt, bytes_eq}
 use Rattle.std.specs.List.{list_any, list_all}
@@ -27,7 +27,7 @@ use Rattle.saved_rules.specs.Basis.{Basis, records_of}
 use Rattle.saved_rules.specs.Legal.{told}
 use Rattle.saved_rules.specs.RunShapes.{Told}
 use Rattle.saved_rules.specs.Rules as rules
-use Rattle.legal_runs.specs.Reached.{IsReached}
+use Rattle.legal_worlds.specs.Runs.{IsLegalRun}
 use Rattle.legal_runs.proofs.Tests.{both_true, not_true, less_true, least_true, same_true, text_true, each_of, each_both, all_true, all_map_true, differ_true}
 
 -- keys
@@ -80,7 +80,7 @@ named_all of thread t xs live given = both_true _ _
 
 -- The rules
 
-module _ (b : Basis) (seed : ℕ) (digest : List ℕ) (w : World Task) (h : IsReached b.program seed w) (ranges : IsRun IsTask (snapshot digest seed w)) where
+module _ (b : Basis) (seed : ℕ) (digest : List ℕ) (w : World Task) (h : IsLegalRun b.program seed w) (ranges : IsRun IsTask (snapshot digest seed w)) where
   abbrev tells : Told
   tells = told (snapshot digest seed w)
 

@@ -7,7 +7,7 @@ use Rattle.hex.proofs.HexLemmas.{length-encode_with}
 use Rattle.legal_threads.specs.Lists.{Each}
 use Rattle.legal_threads.proofs.Numbers.{equal}
 use Rattle.saved_rules.specs.RunShapes.{is_digit, is_digest}
-use Rattle.legal_runs.specs.Reached.{IsDigest}
+use Rattle.legal_runs.specs.Good.{IsDigest}
 use Rattle.legal_runs.proofs.Tests.{both_true, same_true, each_of}
 
 -- each of the first n places of a list is a digit

@@ -7,13 +7,15 @@ use Rattle.loaded_programs.proofs.NumbersHeld.{program_within}
 use Rattle.loaded_programs.proofs.ScriptsHeld.{scripts_legal, blocks_tell, blocks_in_order}
 use Rattle.loaded_programs.proofs.TargetsHeld.{program_playable}
 use Rattle.saved_rules.specs.Basis.{Basis}
-use Rattle.legal_runs.specs.Reached.{IsGood}
+use Rattle.legal_runs.specs.Good.{IsGood}
 
 pub file_good : (bytes : List ℕ) (f : File) (b : Basis) → length bytes < 2 ^ 32 → file.IsAccepted bytes f → file.IsProgram f b.program → b.blocks ≡ map length (blocks_in f) → IsGood b
 file_good bytes f b few accepted program same = record {
-  scripts = scripts_legal bytes f b.program few accepted program;
+  program = record {
+    scripts = scripts_legal bytes f b.program few accepted program;
+    targets = program_playable bytes f b.program few accepted program;
+    numbers = program_within bytes f b.program few accepted program;
+  };
   blocks = blocks_tell bytes f b.program few accepted program;
   order = subst (λ blocks. IsInOrder blocks b.program) (sym same) (blocks_in_order bytes f b.program few accepted program);
-  targets = program_playable bytes f b.program few accepted program;
-  numbers = program_within bytes f b.program few accepted program;
 }

@@ -1,4 +1,4 @@
--- The rules on instances hold of a world that a run can reach.
+-- The rules on instances hold of a legal world.
 use Rattle.std.proofs.Common.{◌≡◌, ℕ, zero, suc, ◌<◌, ◌≤◌, ◌==◌, ◌⊎◌, inl, inr, true, false, not, ◌&&◌, ◌||◌, List, [], ◌∷◌, map, length, filter, Option, Some, None, refl, sym, subst, arith}
 use Rattle.std.specs.Prelude.{nat_lt, nat_le, ℤ, pos, negsuc, slice_get, unwrap_or, IsSomeAnd}
 use Rattle.std.specs.List.{list_any}
@@ -27,7 +27,7 @@ use Rattle.saved_rules.specs.Legal.{told}
 use Rattle.saved_rules.specs.RunShapes.{Told}
 use Rattle.saved_rules.specs.Rules as rules
 use Rattle.script_machine.specs.Stores.{store_at}
-use Rattle.legal_runs.specs.Reached.{IsReached}
+use Rattle.legal_worlds.specs.Runs.{IsLegalRun}
 use Rattle.legal_runs.proofs.Counting.{one_original, clones_few}
 use Rattle.legal_runs.proofs.Tests.{both_true, left_true, right_true, not_true, unless_true, less_true, least_true, same_true, each_both, all_true, all_below_true, differ_true, some_true}
 
@@ -69,7 +69,7 @@ edge_is b target block h = edge_by block h.head (scripts_at target b.program).he
 
 -- The rules
 
-module _ (b : Basis) (seed : ℕ) (digest : List ℕ) (w : World Task) (h : IsReached b.program seed w) where
+module _ (b : Basis) (seed : ℕ) (digest : List ℕ) (w : World Task) (h : IsLegalRun b.program seed w) where
   abbrev tells : Told
   tells = told (snapshot digest seed w)
 

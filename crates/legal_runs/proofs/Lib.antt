@@ -1,5 +1,4 @@
 pub mod Files
-pub mod First
 pub mod Tests
 pub mod DeviceRules
 pub mod Counting
@@ -10,7 +9,6 @@ pub mod ThreadFits
 pub mod ThreadLegal
 pub mod ThreadRules
 pub mod ThreadsTold
-pub mod Last
 pub mod TextRules
 pub mod Digests
 pub mod Told

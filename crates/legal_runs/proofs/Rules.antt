@@ -1,4 +1,4 @@
--- No rule is broken by what the text of a world tells that a run can reach.
+-- No rule is broken by what the text of a legal world tells.
 use Rattle.std.proofs.Common.{◌≡◌, ℕ, true, List, None, option_map, ap}
 use Rattle.script_machine.specs.Tasks.{Task}
 use Rattle.script_machine.specs.World.{World}
@@ -8,14 +8,15 @@ use Rattle.saved_text.specs.Saved.{snapshot}
 use Rattle.saved_rules.specs.Basis.{Basis}
 use Rattle.saved_rules.specs.Legal.{told}
 use Rattle.saved_rules.specs.Rules.{rules, broken}
-use Rattle.legal_runs.specs.Reached.{IsGood, IsReached}
+use Rattle.legal_worlds.specs.Runs.{IsLegalRun}
+use Rattle.legal_runs.specs.Good.{IsGood}
 use Rattle.legal_runs.proofs.DeviceRules as devices
 use Rattle.legal_runs.proofs.InstanceRules as instances
 use Rattle.legal_runs.proofs.TextRules as texts
 use Rattle.legal_runs.proofs.ThreadRules as threads
 use Rattle.legal_runs.proofs.Tests.{all_passed}
 
-module _ (b : Basis) (seed : ℕ) (digest : List ℕ) (w : World Task) (good : IsGood b) (h : IsReached b.program seed w) (ranges : IsRun IsTask (snapshot digest seed w)) where
+module _ (b : Basis) (seed : ℕ) (digest : List ℕ) (w : World Task) (good : IsGood b) (h : IsLegalRun b.program seed w) (ranges : IsRun IsTask (snapshot digest seed w)) where
   each_holds : Each (λ r. r.holds ≡ true) (rules b (told (snapshot digest seed w)))
   unfolding rules
   each_holds = (

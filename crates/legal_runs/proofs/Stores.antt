@@ -1,4 +1,4 @@
--- The stores of a world that a run can reach are those that its instances tell, in order; their texts are short.
+-- The stores of a legal world are those that its instances tell, in order; their texts are short.
 use Rattle.std.proofs.Common.{◌≡◌, ℕ, ◌<◌, ◌≤◌, ◌==◌, ◌⊎◌, inl, inr, Bool, true, false, cond, List, [], ◌∷◌, map, Option, Some, refl, sym, ap, ◌∙◌, subst, arith}
 use Rattle.std.specs.Prelude.{◌↔◌, nat_lt, find, unwrap_or}
 use Rattle.std.proofs.lemmas.Bool.Decides.{nat_tests}

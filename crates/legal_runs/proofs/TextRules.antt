@@ -1,4 +1,4 @@
--- The texts of instances and their variables are short in a world that a run can reach.
+-- The texts of instances and their variables are short in a legal world.
 use Rattle.std.proofs.Common.{◌≡◌, ℕ, inl, inr, true, List, [], ◌∷◌, map, refl, ap, ◌∙◌, subst}
 use Rattle.std.specs.Prelude.{nat_le}
 use Rattle.std.specs.Fmt.{char_count}
@@ -18,7 +18,7 @@ use Rattle.saved_text.specs.Saved.{snapshot}
 use Rattle.saved_rules.specs.Basis.{Basis}
 use Rattle.saved_rules.specs.Legal.{told}
 use Rattle.saved_rules.specs.Rules.{is_short, has_short_texts, instances_say_little}
-use Rattle.legal_runs.specs.Reached.{IsReached}
+use Rattle.legal_worlds.specs.Runs.{IsLegalRun}
 use Rattle.legal_runs.proofs.Stores.{Own, numbers, each_own}
 use Rattle.legal_runs.proofs.Tests.{both_true, least_true, each_of, each_both, all_true}
 
@@ -51,7 +51,7 @@ each_member ss = each_in ss ss (λ n m. m)
     each_in [] all f = tt
     each_in (x ∷ xs) all f = (f x.of (inl refl), each_in xs all (λ n m. f n (inr m)))
 
-module _ (b : Basis) (seed : ℕ) (digest : List ℕ) (w : World Task) (h : IsReached b.program seed w) (ranges : IsRun IsTask (snapshot digest seed w)) where
+module _ (b : Basis) (seed : ℕ) (digest : List ℕ) (w : World Task) (h : IsLegalRun b.program seed w) (ranges : IsRun IsTask (snapshot digest seed w)) where
   abbrev stores : List Store
   stores = w.variables.stores
 

@@ -1,4 +1,4 @@
--- The text of a world that a run can reach is accepted, and tells one world.
+-- The text of a legal world is accepted, and tells one world.
 use Rattle.std.proofs.Common.{◌≡◌, ℕ, false, List, sym, ap, ◌∙◌, subst}
 use Rattle.script_machine.specs.Tasks.{Task}
 use Rattle.script_machine.specs.World.{World}
@@ -8,7 +8,8 @@ use Rattle.saved_text.specs.Tasks.{task}
 use Rattle.saved_rules.specs.Basis.{Basis}
 use Rattle.saved_rules.specs.Legal.{told}
 use Rattle.saved_rules.specs.Refusals.{IsAccepted}
-use Rattle.legal_runs.specs.Reached.{IsDigest, IsGood, IsReached}
+use Rattle.legal_worlds.specs.Runs.{IsLegalRun}
+use Rattle.legal_runs.specs.Good.{IsDigest, IsGood}
 use Rattle.legal_runs.specs.Worlds.{world_told}
 use Rattle.legal_runs.proofs.Accepted.{accepted_so, one_told}
 use Rattle.legal_runs.proofs.Rules.{rules_hold}
@@ -16,12 +17,12 @@ use Rattle.legal_runs.proofs.ThreadRules.{no_bad_thread}
 use Rattle.legal_runs.proofs.ThreadsTold.{the_world_told}
 use Rattle.legal_runs.proofs.Told.{can_be_told}
 
-pub text_accepted : (b : Basis) (seed : ℕ) (digest : List ℕ) (w : World Task) → IsGood b → IsDigest digest → IsReached b.program seed w → IsRun IsTask (snapshot digest seed w)
+pub text_accepted : (b : Basis) (seed : ℕ) (digest : List ℕ) (w : World Task) → IsGood b → IsDigest digest → IsLegalRun b.program seed w → IsRun IsTask (snapshot digest seed w)
     → IsAccepted b digest (saved_text task (snapshot digest seed w)) (told (snapshot digest seed w))
 text_accepted b seed digest w good is h ranges =
     accepted_so b digest seed w (can_be_told b seed digest w is h ranges) (rules_hold b seed digest w good h ranges) (no_bad_thread b seed digest w good h ranges)
 
-pub one_world : (b : Basis) (seed : ℕ) (digest : List ℕ) (w v : World Task) → IsGood b → IsDigest digest → IsReached b.program seed w → IsReached b.program seed v
+pub one_world : (b : Basis) (seed : ℕ) (digest : List ℕ) (w v : World Task) → IsGood b → IsDigest digest → IsLegalRun b.program seed w → IsLegalRun b.program seed v
     → IsRun IsTask (snapshot digest seed w) → IsRun IsTask (snapshot digest seed v) → saved_text task (snapshot digest seed w) ≡ saved_text task (snapshot digest seed v) → record w { redraw = false } ≡ record v { redraw = false }
 one_world b seed digest w v good is h k ranges others e =
     let same = one_told b digest (saved_text task (snapshot digest seed v)) (told (snapshot digest seed w)) (told (snapshot digest seed v))

@@ -1,4 +1,4 @@
--- The threads of a world that a run can reach are legal threads of saved runs, and their levels stand for what they have
+-- The threads of a legal world are legal threads of saved runs, and their levels stand for what they have
 -- still to do.
 use Rattle.std.proofs.Common.{◌≡◌, ℕ, ◌<◌, ◌==◌, ◌&&◌, inl, inr, Bool, true, false, List, [], ◌∷◌, map, cond, Some, option_map, option_and_then, refl, sym, ap, ◌∙◌, subst, arith}
 use Rattle.std.specs.Prelude.{find, unwrap_or}
@@ -23,7 +23,8 @@ use Rattle.saved_rules.specs.Levels.{items_of, left_of, thread_is_well}
 use Rattle.saved_rules.specs.RunShapes.{Told}
 use Rattle.saved_rules.specs.Threads as rules
 use Rattle.saved_rules.proofs.Placed as saved
-use Rattle.legal_runs.specs.Reached.{IsGood, IsReached}
+use Rattle.legal_worlds.specs.Runs.{IsLegalRun}
+use Rattle.legal_runs.specs.Good.{IsGood}
 use Rattle.legal_runs.specs.Worlds.{items_told, warp_told, task_told}
 use Rattle.legal_runs.proofs.Tests.{both_true}
 use Rattle.legal_runs.proofs.ThreadFits.{items_fit, stands_in, status_fits, promises_fit}
@@ -62,7 +63,7 @@ warp_is p hat (Branch s v ∷ r) w h = absurd h.0
 warp_is p hat (Again s c v ∷ r) w h = absurd h.0
 warp_is p hat (Back s ps v ∷ r) w h = absurd h.0
 
-module _ (b : Basis) (seed : ℕ) (digest : List ℕ) (w : World Task) (good : IsGood b) (reached : IsReached b.program seed w) where
+module _ (b : Basis) (seed : ℕ) (digest : List ℕ) (w : World Task) (good : IsGood b) (run_legal : IsLegalRun b.program seed w) where
   abbrev pub tells : Told
   tells = told (snapshot digest seed w)
 
@@ -71,7 +72,7 @@ module _ (b : Basis) (seed : ℕ) (digest : List ℕ) (w : World Task) (good : I
     pub target_is : (instance_at x.of w.targets).of ≡ h.thread.target
     target_is =
         let f = found x.of h.thread.target w.targets h.thread.hosted in
-        ap (λ o. (unwrap_or o no_instance).of) f.is_it ∙ hosts_one x.of f.x.of h.thread.target w.targets reached.threads.sound.inhabited.differ f.hosts h.thread.hosted
+        ap (λ o. (unwrap_or o no_instance).of) f.is_it ∙ hosts_one x.of f.x.of h.thread.target w.targets run_legal.threads.sound.inhabited.differ f.hosts h.thread.hosted
 
     pub script_is : IsOf b good h.thread.target h.thread.head.script
     script_is = head_is b good h.thread.target h.thread.head h.thread.heads

@@ -17,7 +17,7 @@ use Rattle.legal_threads.proofs.Programs.{held_head}
 use Rattle.loaded_programs.specs.Scripts.{Begun, BegunUnder, BegunIn, IsInBlocks}
 use Rattle.saved_rules.specs.Basis.{Basis}
 use Rattle.saved_rules.specs.Legal.{AllStand, BlocksAgree}
-use Rattle.legal_runs.specs.Reached.{IsGood}
+use Rattle.legal_runs.specs.Good.{IsGood}
 
 module _ (b : Basis) (good : IsGood b) where
   -- a script of a target
@@ -60,7 +60,7 @@ module _ (b : Basis) (good : IsGood b) where
   found k test (q ∷ qs) h g e = found_by k test (test q) q qs (record { within = h.0.within; begun = g.0; each = e.0 }) (found k test qs h.1 g.1 e.1)
 
   called_by_is : (k : ℕ) (x : Kind) (code : List ℕ) → CallIsOf k (called_by x b.program k code)
-  called_by_is k Calls code = found k (λ q. bytes_eq q.code code) (scripts_at k b.program).procedures (good.scripts.procedures k) (good.blocks.procedures k) (good.order.placed.procedures k)
+  called_by_is k Calls code = found k (λ q. bytes_eq q.code code) (scripts_at k b.program).procedures (good.program.scripts.procedures k) (good.blocks.procedures k) (good.order.placed.procedures k)
   called_by_is k x code = tt
 
   called_is : (k : ℕ) (s : Statement) → (place_of s).target ≡ k → CallIsOf k (called b.program s)
@@ -75,7 +75,7 @@ module _ (b : Basis) (good : IsGood b) where
 
   pub head_is : (k : ℕ) (h : Head) → Holds h (scripts_at k b.program).heads → IsOf k h.script
   head_is k h held = record {
-    within = held_head (λ x. Within k x.script) h (scripts_at k b.program).heads held (good.scripts.heads k);
+    within = held_head (λ x. Within k x.script) h (scripts_at k b.program).heads held (good.program.scripts.heads k);
     begun = held_head (λ x. Begun (good.blocks.at k) x.script) h (scripts_at k b.program).heads held (good.blocks.heads k);
     each = held_head (λ x. EachIn (IsInBlocks b.blocks k) x.script) h (scripts_at k b.program).heads held (good.order.placed.heads k);
   }

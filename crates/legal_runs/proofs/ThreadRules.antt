@@ -1,4 +1,4 @@
--- The rules on threads hold of a world that a run can reach.
+-- The rules on threads hold of a legal world.
 use Rattle.std.proofs.Common.{◌≡◌, ℕ, ◌+◌, ◌<◌, ◌≤◌, ◌==◌, inl, inr, Bool, true, false, not, List, [], ◌∷◌, map, length, filter, cond, Option, Some, None, option_map, refl, sym, ap, ◌∙◌, subst, arith}
 use Rattle.std.specs.Prelude.{find, is_some, nat_lt}
 use Rattle.std.specs.List.{All, fold, list_any, list_all}
@@ -32,7 +32,8 @@ use Rattle.saved_rules.specs.Kept.{SavedLevel, SavedThread, kept_of, level_of, l
 use Rattle.saved_rules.specs.Legal.{AllStand, StandsIn, told}
 use Rattle.saved_rules.specs.Levels.{thread_is_well, bad_thread}
 use Rattle.saved_rules.specs.Rules as rules
-use Rattle.legal_runs.specs.Reached.{IsGood, IsReached}
+use Rattle.legal_worlds.specs.Runs.{IsLegalRun}
+use Rattle.legal_runs.specs.Good.{IsGood}
 use Rattle.legal_runs.proofs.Tests.{both_true, left_true, right_true, less_true, least_true, each_of, each_both, all_true, all_map_true, differ_true}
 use Rattle.legal_runs.proofs.ThreadPlaces.{IsOf, placed}
 use Rattle.legal_runs.proofs.ThreadLegal.{tells, target_is, script_is, stands, is_well}
@@ -225,7 +226,7 @@ none_bad test (t ∷ ts) h = well_by test (test (thread_told t)) (thread_told t)
 
 -- The rules
 
-module _ (b : Basis) (seed : ℕ) (digest : List ℕ) (w : World Task) (good : IsGood b) (reached : IsReached b.program seed w) (run : IsRun IsTask (snapshot digest seed w)) where
+module _ (b : Basis) (seed : ℕ) (digest : List ℕ) (w : World Task) (good : IsGood b) (run_legal : IsLegalRun b.program seed w) (run : IsRun IsTask (snapshot digest seed w)) where
   pub params_short : rules.params_are_short (told (snapshot digest seed w)) ≡ true
   params_short = all_map_true IsTask thread_told _ w.threads.list (λ x k. levels_short x.items k.items) (each_of IsTask w.threads.list run.threads)
 
@@ -236,33 +237,33 @@ module _ (b : Basis) (seed : ℕ) (digest : List ℕ) (w : World Task) (good : I
       let f = found x.of k.0.thread.target w.targets k.0.thread.hosted in
       both_true (rules.is_named (told (snapshot digest seed w)) x.of x.serial) _
       (both_true (is_some (live x.of w.targets)) (nat_lt x.serial w.next_thread) (live_some (live x.of w.targets) f.x f.is_it) (less_true x.serial w.next_thread k.1))
-      (hat_is b.program x.hat k.0.thread.target (instance_at x.of w.targets).of k.0.thread.head (target_is b seed digest w good reached x k.0) k.0.thread.hat k.0.thread.heads))
-      (each_both (threads.IsLegalThread b.program w) (λ x. x.serial < w.next_thread) w.threads.list reached.threads.threads
-      (each_number (λ n. n < w.next_thread) w.threads.list reached.threads.serials.given)))
-      (subst (λ ns. rules.differ ns ≡ true) (sym (same_serials w.threads.list)) (differ_true (map (λ x. x.serial) w.threads.list) reached.threads.serials.differ))
+      (hat_is b.program x.hat k.0.thread.target (instance_at x.of w.targets).of k.0.thread.head (target_is b seed digest w good run_legal x k.0) k.0.thread.hat k.0.thread.heads))
+      (each_both (threads.IsLegalThread b.program w) (λ x. x.serial < w.next_thread) w.threads.list run_legal.threads.threads
+      (each_number (λ n. n < w.next_thread) w.threads.list run_legal.threads.serials.given)))
+      (subst (λ ns. rules.differ ns ≡ true) (sym (same_serials w.threads.list)) (differ_true (map (λ x. x.serial) w.threads.list) run_legal.threads.serials.differ))
 
   pub levels_of_blocks : rules.levels_are_of_blocks b (told (snapshot digest seed w)) ≡ true
   levels_of_blocks = all_map_true (threads.IsLegalThread b.program w) thread_told _ w.threads.list
-      (λ x k. subst (λ j. list_all (rules.is_in_target (blocks_of j b)) (levels_of x.items) ≡ true) (sym (target_is b seed digest w good reached x k))
-      (levels_in b good k.thread.target k.thread.head.script (script_is b seed digest w good reached x k) x.items x.warp (stands b seed digest w good reached x k)))
-      reached.threads.threads
+      (λ x k. subst (λ j. list_all (rules.is_in_target (blocks_of j b)) (levels_of x.items) ≡ true) (sym (target_is b seed digest w good run_legal x k))
+      (levels_in b good k.thread.target k.thread.head.script (script_is b seed digest w good run_legal x k) x.items x.warp (stands b seed digest w good run_legal x k)))
+      run_legal.threads.threads
 
   pub started_there : rules.started_were_there (told (snapshot digest seed w)) ≡ true
   started_there = all_map_true (threads.IsLegalThread b.program w) thread_told _ w.threads.list
-      (λ x k. levels_there w.next_thread b.program k.thread.head.script w.devices.clock x.items x.warp k.thread.legal k.thread.kept) reached.threads.threads
+      (λ x k. levels_there w.next_thread b.program k.thread.head.script w.devices.clock x.items x.warp k.thread.legal k.thread.kept) run_legal.threads.threads
 
   pub levels_few : rules.levels_are_few (told (snapshot digest seed w)) ≡ true
   levels_few =
       let counted : Each (λ t. length (levels_of t.items) ≡ depth t) w.threads.list =
       each_map (threads.IsLegalThread b.program w) _ w.threads.list
-      (λ x k. levels_count b.program k.thread.head.script x.items x.warp (stands b seed digest w good reached x k) ∙ sym (depth_by (is_done x.status) (markers x.items + 1) k.alive))
-      reached.threads.threads in
+      (λ x k. levels_count b.program k.thread.head.script x.items x.warp (stands b seed digest w good run_legal x k) ∙ sym (depth_by (is_done x.status) (markers x.items + 1) k.alive))
+      run_legal.threads.threads in
       let told_levels = fold_levels 0 w.threads.list counted in
       let all = levels_are w.threads in
-      let few : levels w ≤ most_levels = reached.threads.few in
+      let few : levels w ≤ most_levels = run_legal.threads.few in
       least_true _ _ (omega (arith, told_levels, all, few))
 
   pub no_bad_thread : bad_thread b (told (snapshot digest seed w)) ≡ None
   unfolding bad_thread
-  no_bad_thread = ap (option_map (λ x. x.serial)) (none_bad (thread_is_well b (tells b seed digest w good reached)) w.threads.list
-      (each_map (threads.IsLegalThread b.program w) _ w.threads.list (λ x k. is_well b seed digest w good reached x k) reached.threads.threads))
+  no_bad_thread = ap (option_map (λ x. x.serial)) (none_bad (thread_is_well b (tells b seed digest w good run_legal)) w.threads.list
+      (each_map (threads.IsLegalThread b.program w) _ w.threads.list (λ x k. is_well b seed digest w good run_legal x k) run_legal.threads.threads))

@@ -1,4 +1,4 @@
--- The saved text of a world that a run can reach tells this world.
+-- The saved text of a legal world tells this world.
 use Rattle.std.proofs.Common.{◌≡◌, ℕ, false, List, [], ◌∷◌, map, None, refl, sym, ap, ◌∙◌}
 use Rattle.script_machine.specs.Places.{Places}
 use Rattle.script_machine.specs.Tasks.{Task}
@@ -28,15 +28,15 @@ places_told : (threads : Places Task) (list : List Task) → list ≡ threads.li
 places_told threads list e none = ap (λ xs. record threads { list = xs; detached = None }) e ∙ ap (λ o. record threads { detached = o }) (sym none)
 
 pub the_world_told : WorldIsTold
-the_world_told b seed digest w good reached =
+the_world_told b seed digest w good run_legal =
     let ts = places_told w.threads (map (task_told b (told (snapshot digest seed w))) (map thread_told w.threads.list))
     (all_told b (told (snapshot digest seed w)) w.threads.list
     (each_map (threads.IsLegalThread b.program w) (λ x. task_told b (told (snapshot digest seed w)) (thread_told x) ≡ x) w.threads.list
-    (λ x k. is_told b seed digest w good reached x k) reached.threads.threads))
-    reached.threads.none_detached in
+    (λ x k. is_told b seed digest w good run_legal x k) run_legal.threads.threads))
+    run_legal.threads.none_detached in
     ap (λ d. record w {
       words = d;
       redraw = false;
       threads = record { list = map (task_told b (told (snapshot digest seed w))) (map thread_told w.threads.list); detached = None };
-    }) (words_told seed w.words reached.instances.words)
+    }) (words_told seed w.words run_legal.instances.words)
     ∙ ap (λ places. record w { redraw = false; threads = places }) ts

@@ -1,4 +1,4 @@
--- A world that a run can reach can be told.
+-- A legal world can be told.
 use Rattle.std.proofs.Common.{◌≡◌, ℕ, true, List, [], ◌∷◌, map, Some, refl}
 use Rattle.script_machine.specs.declared.threads.Context.{Context}
 use Rattle.script_machine.specs.declared.threads.Context.TheVariants.{Fresh, Repeat, Wait, Glide, Started, Asked, Spoken, Called}
@@ -18,7 +18,8 @@ use Rattle.saved_text.specs.Saved.{snapshot}
 use Rattle.saved_rules.specs.Basis.{Basis}
 use Rattle.saved_rules.specs.InstanceShapes.{rises_above, rises}
 use Rattle.saved_again.specs.Told.{HasFewTurns, KeepsFewTurns, IsTold, CanBeTold}
-use Rattle.legal_runs.specs.Reached.{IsDigest, IsReached}
+use Rattle.legal_worlds.specs.Runs.{IsLegalRun}
+use Rattle.legal_runs.specs.Good.{IsDigest}
 use Rattle.legal_runs.proofs.Digests.{digest_written}
 use Rattle.legal_runs.proofs.Stores.{in_order}
 use Rattle.legal_runs.proofs.Tests.{both_true, less_true, all_of, each_both}
@@ -54,7 +55,7 @@ item_few (Returned s params) h = tt
 item_few (Branch s warp) h = tt
 item_few (Back s params warp) h = tt
 
-pub can_be_told : (b : Basis) (seed : ℕ) (digest : List ℕ) (w : World Task) → IsDigest digest → IsReached b.program seed w → IsRun IsTask (snapshot digest seed w) → CanBeTold (snapshot digest seed w)
+pub can_be_told : (b : Basis) (seed : ℕ) (digest : List ℕ) (w : World Task) → IsDigest digest → IsLegalRun b.program seed w → IsRun IsTask (snapshot digest seed w) → CanBeTold (snapshot digest seed w)
 can_be_told b seed digest w is h ranges = record {
   ranges = ranges;
   project = digest_written digest is;

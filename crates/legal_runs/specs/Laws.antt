@@ -1,7 +1,5 @@
--- Laws of the worlds of a run and of their saved texts, as statements that public functions with empty bodies prove.
+-- Laws of the legal worlds of a run and of their saved texts, as statements that public functions with empty bodies prove.
 use Rattle.std.specs.Prelude.{◌≡◌, ℕ, ◌<◌, ◌^◌, false, List, map, length}
-use Rattle.script_machine.specs.First.{first_world}
-use Rattle.script_machine.specs.Output.{Whole, played}
 use Rattle.script_machine.specs.Tasks.{Task}
 use Rattle.script_machine.specs.World.{World}
 use Rattle.project_file.specs.Reading.{File, blocks_in}
@@ -12,8 +10,8 @@ use Rattle.saved_text.specs.Tasks.{task}
 use Rattle.saved_rules.specs.Basis.{Basis}
 use Rattle.saved_rules.specs.Legal.{told}
 use Rattle.saved_rules.specs.Refusals.{IsAccepted}
-use Rattle.legal_words.specs.Words.{words_after}
-use Rattle.legal_runs.specs.Reached.{IsDigest, IsGood, IsReached}
+use Rattle.legal_worlds.specs.Runs.{IsLegalRun}
+use Rattle.legal_runs.specs.Good.{IsDigest, IsGood}
 use Rattle.legal_runs.specs.Worlds.{world_told}
 
 -- the program of each project file that is accepted is good
@@ -22,32 +20,22 @@ EachFileIsGood =
     (bytes : List ℕ) (f : File) (b : Basis) → length bytes < 2 ^ 32 → file.IsAccepted bytes f → file.IsProgram f b.program
     → b.blocks ≡ map length (blocks_in f) → IsGood b
 
--- the first world of a run is one that a run can reach
-abbrev pub FirstIsReached : Type 0
-FirstIsReached = (b : Basis) (seed : ℕ) → IsGood b → IsReached b.program seed (first_world b.program (words_after seed 0))
-
--- and so is the last one of a script that is played to its end
-abbrev pub LastIsReached : Type 0
-LastIsReached =
-    (b : Basis) (seed n : ℕ) (w v : World Task) (lines : List (List ℕ)) → IsGood b → IsReached b.program seed w
-    → (played b.program n w.devices.clock w lines).ending ≡ Whole v → IsReached b.program seed v
-
--- the text of a run, where its types hold what they say, is accepted, and tells it
+-- the text of a legal world, where the types of its run hold what they say, is accepted, and tells it
 abbrev pub TextIsAccepted : Type 0
 TextIsAccepted =
-    (b : Basis) (seed : ℕ) (digest : List ℕ) (w : World Task) → IsGood b → IsDigest digest → IsReached b.program seed w
+    (b : Basis) (seed : ℕ) (digest : List ℕ) (w : World Task) → IsGood b → IsDigest digest → IsLegalRun b.program seed w
     → IsRun IsTask (snapshot digest seed w) → IsAccepted b digest (saved_text task (snapshot digest seed w)) (told (snapshot digest seed w))
 
--- the world that it tells is the run's, without its redraw request
+-- the world that it tells is this one, without its redraw request
 abbrev pub WorldIsTold : Type 0
 WorldIsTold =
-    (b : Basis) (seed : ℕ) (digest : List ℕ) (w : World Task) → IsGood b → IsReached b.program seed w
+    (b : Basis) (seed : ℕ) (digest : List ℕ) (w : World Task) → IsGood b → IsLegalRun b.program seed w
     → world_told b (told (snapshot digest seed w)) ≡ record w { redraw = false }
 
--- worlds with the same text differ in their redraw requests alone
+-- legal worlds with the same text differ in their redraw requests alone
 abbrev pub OneWorldOfAText : Type 0
 OneWorldOfAText =
-    (b : Basis) (seed : ℕ) (digest : List ℕ) (w v : World Task) → IsGood b → IsDigest digest → IsReached b.program seed w
-    → IsReached b.program seed v → IsRun IsTask (snapshot digest seed w) → IsRun IsTask (snapshot digest seed v)
+    (b : Basis) (seed : ℕ) (digest : List ℕ) (w v : World Task) → IsGood b → IsDigest digest → IsLegalRun b.program seed w
+    → IsLegalRun b.program seed v → IsRun IsTask (snapshot digest seed w) → IsRun IsTask (snapshot digest seed v)
     → saved_text task (snapshot digest seed w) ≡ saved_text task (snapshot digest seed v)
     → record w { redraw = false } ≡ record v { redraw = false }

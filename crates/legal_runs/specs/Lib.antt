@@ -1,3 +1,3 @@
 pub mod Worlds
-pub mod Reached
+pub mod Good
 pub mod Laws

@@ -1,6 +1,5 @@
--- Which runs can be saved and read back: what the machine's world can be between two lines of a script.
-use Rattle.std.specs.Prelude.{◌≡◌, ℕ, List, [], ◌∷◌, map, Bool, true, false, None, Some, Ok, IsUtf8}
-use Rattle.std.specs.List.{All}
+-- What the text of a run tells, and which threads of the machine its threads stand for.
+use Rattle.std.specs.Prelude.{◌≡◌, ℕ, List, [], ◌∷◌, map, Bool, true, false, Some}
 use Rattle.script_machine.specs.Legal.{EndOfOne, Stands, script_of, scripts_on}
 use Rattle.script_machine.specs.Line.{key_name}
 use Rattle.script_machine.specs.Pending.{Item, Do, Held, Returned, Branch, Again, Back}
@@ -9,11 +8,10 @@ use Rattle.script_machine.specs.Script.{Script, Then, Statement, place_of}
 use Rattle.script_machine.specs.declared.instance.Instance.{Instance}
 use Rattle.script_machine.specs.Stores.{Devices, instance_at}
 use Rattle.script_machine.specs.Tasks.{Task}
-use Rattle.saved_text.specs.Saved.{Snapshot, saved, saved_text}
+use Rattle.saved_text.specs.Saved.{Snapshot}
 use Rattle.saved_rules.specs.Basis.{Basis, script_under}
-use Rattle.saved_rules.specs.Kept.{thread, thread_told}
-use Rattle.saved_rules.specs.RunShapes.{Told, run}
-use Rattle.saved_rules.specs.Rules.{broken}
+use Rattle.saved_rules.specs.Kept.{thread_told}
+use Rattle.saved_rules.specs.RunShapes.{Told}
 use Rattle.saved_rules.specs.Threads.{stands_well}
 
 -- the same run with other threads
@@ -74,11 +72,3 @@ pub record IsLegalThread (b : Basis) (targets : List Instance) (d : Devices) (t 
 pub record BlocksAgree (p : Program) (hat : Script) : Type 0 where
   pub script_at : ℕ → Script
   pub agree : (under : List Item) (s : Statement) (rest : Script) → AllStand p hat under → EndOfOne (Then s rest) (scripts_on p hat under) → Then s rest ≡ script_at (place_of s).block
-
--- A run that can be saved: it has the shape of the format, its value telling it whole, in texts that are UTF-8; it breaks
--- no rule; and each thread is legal.
-pub record IsLegal (b : Basis) (s : Snapshot Task) : Type 0 where
-  pub shape : run [] (saved thread (told s).run) ≡ Ok (told s)
-  pub utf8 : IsUtf8 (saved_text thread (told s).run)
-  pub rules : broken b (told s) ≡ None
-  pub threads : All (IsLegalThread b s.targets s.devices) s.threads

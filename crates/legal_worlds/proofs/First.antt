@@ -1,8 +1,9 @@
--- The first world of a run is one that a run can reach.
-use Rattle.std.proofs.Common.{ℕ, length, arith}
+-- The first world of a run is legal.
+use Rattle.std.proofs.Common.{ℕ, length, sym, subst, arith}
 use Rattle.std.specs.Prelude.{◌≤◌}
 use Rattle.script_machine.specs.First.{first_world}
 use Rattle.script_machine.specs.Program.{Program}
+use Rattle.script_machine.specs.Words.{Words}
 use Rattle.legal_words.specs.Words.{words_after}
 use Rattle.legal_threads.specs.Playable.{IsPlayable}
 use Rattle.legal_threads.proofs.First as threads
@@ -10,8 +11,7 @@ use Rattle.legal_instances.proofs.First as instances
 use Rattle.legal_variables.proofs.First as variables
 use Rattle.legal_turns.proofs.First as turns
 use Rattle.legal_devices.specs.Devices.{IsLegalDesk}
-use Rattle.saved_rules.specs.Basis.{Basis}
-use Rattle.legal_runs.specs.Reached.{IsGood, IsReached}
+use Rattle.legal_worlds.specs.Runs.{IsGoodProgram, IsLegalRun, OpensLegal}
 
 first_desk : (p : Program) (seed : ℕ) → IsPlayable p → IsLegalDesk p (first_world p (words_after seed 0))
 first_desk p seed play = record {
@@ -31,11 +31,14 @@ first_desk p seed play = record {
   targets = omega arith;
 }
 
-pub first_reached : (b : Basis) (seed : ℕ) → IsGood b → IsReached b.program seed (first_world b.program (words_after seed 0))
-first_reached b seed good = record {
-  threads = threads.first_legal b.program (words_after seed 0);
-  instances = instances.first_legal b.program good.targets seed;
-  variables = variables.first_variables b.program (words_after seed 0) good.targets;
-  devices = first_desk b.program seed good.targets;
-  numbers = turns.first_within b.program (words_after seed 0) good.numbers;
+of_seed : (p : Program) (seed : ℕ) → IsGoodProgram p → IsLegalRun p seed (first_world p (words_after seed 0))
+of_seed p seed good = record {
+  threads = threads.first_legal p (words_after seed 0);
+  instances = instances.first_legal p good.targets seed;
+  variables = variables.first_variables p (words_after seed 0) good.targets;
+  devices = first_desk p seed good.targets;
+  numbers = turns.first_within p (words_after seed 0) good.numbers;
 }
+
+pub first_legal : (p : Program) (words : Words) → OpensLegal p (first_world p words)
+first_legal p words seed good e = subst (λ x. IsLegalRun p seed (first_world p x)) (sym e) (of_seed p seed good)

@@ -1,9 +1,9 @@
--- The world that an accepted saved run tells has all that reached worlds have.
+-- The world that an accepted saved run tells is legal.
 use Rattle.std.proofs.Common.{ℕ, List, map, sym, subst}
 use Rattle.legal_threads.specs.Lists.{Each}
 use Rattle.legal_threads.proofs.Numbers.{each_map}
 use Rattle.legal_turns.specs.Within.{IsInstanceWithin, IsStoreWithin}
-use Rattle.legal_runs.specs.Reached.{IsReached}
+use Rattle.legal_worlds.specs.Runs.{IsLegalRun}
 use Rattle.legal_runs.specs.Worlds.{world_told}
 use Rattle.saved_rules.specs.Basis.{Basis}
 use Rattle.saved_rules.specs.Refusals.{IsAccepted}
@@ -27,8 +27,8 @@ stores_within t s =
     (each_in_order IsStoreWithin (map (λ x. x.store) s.standings)
     (each_mapped (λ x. x.store) IsStoreWithin s.standings (each_map IsShapedStanding (λ x. IsStoreWithin x.store) s.standings (λ x h. h.store) s.shaped)))
 
-pub accepted_is_reached : (b : Basis) (digest bytes : List ℕ) (t : Told) → IsAccepted b digest bytes t → IsReached b.program t.run.seed (world_told b t)
-accepted_is_reached b digest bytes t a =
+pub accepted_is_legal : (b : Basis) (digest bytes : List ℕ) (t : Told) → IsAccepted b digest bytes t → IsLegalRun b.program t.run.seed (world_told b t)
+accepted_is_legal b digest bytes t a =
     let h = holds b digest bytes t a in
     let r = named b t h.keeps.rules in
     let wells = all_well b t h.keeps.threads in

@@ -1,4 +1,4 @@
--- Every line of a script that is played leads from a world that a run can reach to another.
+-- Every line keeps a legal world legal, and so does a script that is played to its end.
 use Rattle.std.proofs.Common.{◌≡◌, ℕ, ◌+◌, List, [], ◌∷◌, refl, sym, ap, ◌∙◌, subst}
 use Rattle.script_machine.specs.declared.lines.Line.{Line}
 use Rattle.script_machine.specs.declared.lines.Line.TheVariants as line
@@ -27,19 +27,15 @@ use Rattle.legal_devices.proofs.Reading.{reading_good}
 use Rattle.legal_turns.proofs.Threads.{WorldRuns}
 use Rattle.legal_turns.proofs.Frames.{line_runs}
 use Rattle.legal_turns.proofs.Legal.{legal_runs, runs_within}
-use Rattle.saved_rules.specs.Basis.{Basis}
-use Rattle.legal_runs.specs.Reached.{IsGood, IsReached}
+use Rattle.legal_worlds.specs.Runs.{IsGoodProgram, IsLegalRun, KeepsLegal}
 
 not_back : (l : Line) (w : World Task) → IsGoodLine w.devices.clock l → NotBack l w
 not_back (line.Frame b) w h = h.0
 not_back _ w h = tt
 
-module _ (b : Basis) (seed : ℕ) (good : IsGood b) where
-  abbrev p : Program
-  p = b.program
-
-  line_reached : (l : Line) (w v : World Task) → IsGoodLine w.devices.clock l → IsReached p seed w → after p l w ≡ Goes v → IsReached p seed v
-  line_reached l w v fits h e = record {
+module _ (p : Program) (seed : ℕ) (good : IsGoodProgram p) where
+  line_is_legal : (l : Line) (w v : World Task) → IsGoodLine w.devices.clock l → IsLegalRun p seed w → after p l w ≡ Goes v → IsLegalRun p seed v
+  line_is_legal l w v fits h e = record {
     threads = goes_is (after p l w) (IsLegalWorld p) v e (line_legal p good.scripts l w (not_back l w fits) h.threads);
     instances = goes_is (after p l w) (IsLegalCast p seed) v e
         (line_keeps p instances.AnyStatement (IsLegalCast p seed) good.scripts (anywhere p instances.AnyStatement (λ k s. tt)) (instances.keeps p seed good.targets) l w fits h.threads h.instances);
@@ -50,27 +46,30 @@ module _ (b : Basis) (seed : ℕ) (good : IsGood b) where
   }
 
   -- a line that goes, and the lines after it
-  line_by : (l : Line) (last : ℕ) (w v : World Task) (o : Outcome (World Task)) (rest : World Task → Output) → after p l w ≡ o → w.devices.clock ≡ last → IsGoodLine last l → IsReached p seed w
-      → ((x : World Task) → x.devices.clock ≡ clock_after last (Good l) → IsReached p seed x → (rest x).ending ≡ Whole v → IsReached p seed v)
-      → (played_line p l o rest).ending ≡ Whole v → IsReached p seed v
+  line_by : (l : Line) (last : ℕ) (w v : World Task) (o : Outcome (World Task)) (rest : World Task → Output) → after p l w ≡ o → w.devices.clock ≡ last → IsGoodLine last l → IsLegalRun p seed w
+      → ((x : World Task) → x.devices.clock ≡ clock_after last (Good l) → IsLegalRun p seed x → (rest x).ending ≡ Whole v → IsLegalRun p seed v)
+      → (played_line p l o rest).ending ≡ Whole v → IsLegalRun p seed v
   line_by l last w v (Goes x) rest e same fits h more f =
       let fits_here = subst (λ n. IsGoodLine n l) (sym same) fits in
-      more x (clock_line p l w x good.scripts h.threads fits_here e ∙ ap (λ n. clock_after n (Good l)) same) (line_reached l w x fits_here h e) f
+      more x (clock_line p l w x good.scripts h.threads fits_here e ∙ ap (λ n. clock_after n (Good l)) same) (line_is_legal l w x fits_here h e) f
   line_by l last w v Full rest e same fits h more f = absurd (cc f)
   line_by l last w v (TooLong n) rest e same fits h more f = absurd (cc f)
   line_by l last w v (Spent which) rest e same fits h more f = absurd (cc f)
 
-  reading_by : (n last : ℕ) (bytes : List ℕ) (w v : World Task) (r : Reading) (rest : World Task → Output) → reading_of n last bytes ≡ r → w.devices.clock ≡ last → IsReached p seed w
-      → ((x : World Task) → x.devices.clock ≡ clock_after last r → IsReached p seed x → (rest x).ending ≡ Whole v → IsReached p seed v)
-      → (played_reading p w r rest).ending ≡ Whole v → IsReached p seed v
+  reading_by : (n last : ℕ) (bytes : List ℕ) (w v : World Task) (r : Reading) (rest : World Task → Output) → reading_of n last bytes ≡ r → w.devices.clock ≡ last → IsLegalRun p seed w
+      → ((x : World Task) → x.devices.clock ≡ clock_after last r → IsLegalRun p seed x → (rest x).ending ≡ Whole v → IsLegalRun p seed v)
+      → (played_reading p w r rest).ending ≡ Whole v → IsLegalRun p seed v
   reading_by n last bytes w v (Good l) rest e same h more f = line_by l last w v (after p l w) rest refl same (reading_good n last bytes l e) h more f
   reading_by n last bytes w v (Refused refusal) rest e same h more f = absurd (cc f)
 
-  lines_reached : (n last : ℕ) (w v : World Task) (lines : List (List ℕ)) → w.devices.clock ≡ last → IsReached p seed w → (played p n last w lines).ending ≡ Whole v → IsReached p seed v
-  lines_reached n last w v [] same h e = let f : w ≡ v = cc in subst (IsReached p seed) f h
-  lines_reached n last w v (bytes ∷ lines) same h e =
+  lines_legal : (n last : ℕ) (w v : World Task) (lines : List (List ℕ)) → w.devices.clock ≡ last → IsLegalRun p seed w → (played p n last w lines).ending ≡ Whole v → IsLegalRun p seed v
+  lines_legal n last w v [] same h e = let f : w ≡ v = cc in subst (IsLegalRun p seed) f h
+  lines_legal n last w v (bytes ∷ lines) same h e =
       reading_by n last bytes w v (reading_of n last bytes) (λ x. played p (n + 1) (clock_after last (reading_of n last bytes)) x lines) refl same h
-      (λ x clock k f. lines_reached (n + 1) (clock_after last (reading_of n last bytes)) x v lines clock k f) e
+      (λ x clock k f. lines_legal (n + 1) (clock_after last (reading_of n last bytes)) x v lines clock k f) e
 
-pub last_reached : (b : Basis) (seed n : ℕ) (w v : World Task) (lines : List (List ℕ)) → IsGood b → IsReached b.program seed w → (played b.program n w.devices.clock w lines).ending ≡ Whole v → IsReached b.program seed v
-last_reached b seed n w v lines good h e = lines_reached b seed good n w.devices.clock w v lines refl h e
+pub line_keeps_legal : (p : Program) (l : Line) (w v : World Task) → after p l w ≡ Goes v → KeepsLegal p l w v
+line_keeps_legal p l w v e seed good fits h = line_is_legal p seed good l w v fits h e
+
+pub last_legal : (p : Program) (seed n : ℕ) (w v : World Task) (lines : List (List ℕ)) → IsGoodProgram p → IsLegalRun p seed w → (played p n w.devices.clock w lines).ending ≡ Whole v → IsLegalRun p seed v
+last_legal p seed n w v lines good h e = lines_legal p seed good n w.devices.clock w v lines refl h e
