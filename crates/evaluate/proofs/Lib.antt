@@ -2,3 +2,4 @@ mod Plugged
 mod Values
 mod InOrder
 mod Short
+mod Stopping

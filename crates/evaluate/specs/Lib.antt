@@ -2,3 +2,4 @@ pub mod Seen
 pub mod Plugged
 pub mod Ways
 pub mod Short
+pub mod Stops

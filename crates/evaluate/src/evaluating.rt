@@ -1,6 +1,6 @@
 //! Evaluates inputs and what is plugged into them.
 
-ghost use Rattle.std.specs.Prelude.{◌≡◌, ◌<◌, length, IfOk, Some};
+ghost use Rattle.std.specs.Prelude.{◌≡◌, ◌<◌, length, IfOk, IfErr, Some};
 ghost use Rattle.cached_blocks.specs.Told.{IsReporter};
 ghost use Rattle.project_check.specs.Loaded.{tables_of, blocks_at};
 ghost use Rattle.project_file.specs.Trees.{script};
@@ -13,6 +13,7 @@ ghost use Rattle.evaluate.specs.Plugged.{IsPluggedIn};
 ghost use Rattle.evaluate.specs.Seen.{seen, sheet_of, operand_value, reporter_value, arguments_at};
 ghost use Rattle.evaluate.specs.Short as short;
 ghost use Rattle.evaluate.specs.Short.{both_texts, counts, holds, negated, rounded};
+ghost use Rattle.evaluate.specs.Stops.{IsOfValuesOrMemory};
 
 use crate::linked::{linked, way_at};
 use crate::operating::{counted, held_compared, held_joined, number_in, truth_in};
@@ -585,6 +586,7 @@ pub fn inputs<'p, R: Rng + Drop>(
     requires member { block < length (blocks_at view.now.target view.now.project.now) }
     ensures ok { IfOk result (λ a. (s : Statement) → (rest : Script) → script (sheet_of view.now) (Some block) ≡ Then s rest → evaluated (seen view.now) s (seen_words R.stream words.old) ≡ Goes (record { value = a; words = seen_words R.stream words.new })) }
     ensures stop { (s : Statement) → (rest : Script) → script (sheet_of view.now) (Some block) ≡ Then s rest → StopIs result (evaluated (seen view.now) s (seen_words R.stream words.old)) }
+    ensures kind { IfErr result IsOfValuesOrMemory }
 {
     let _cached = linked(view, block);
     let _ranks = view.project.rank(view.target, block);

@@ -1,6 +1,6 @@
 //! The inputs of blocks that have one, or none.
 
-ghost use Rattle.std.specs.Prelude.{◌≡◌, ◌<◌, [], ◌∷◌, length, IfOk, Some};
+ghost use Rattle.std.specs.Prelude.{◌≡◌, ◌<◌, [], ◌∷◌, length, IfOk, IfErr, Some};
 ghost use Rattle.project_check.specs.Loaded.{tables_of, blocks_at};
 ghost use Rattle.project_file.specs.Trees.{script};
 ghost use Rattle.scratch_values.specs.Args.{arguments as arguments_of};
@@ -10,6 +10,7 @@ ghost use Rattle.script_machine.specs.Outcome.{Goes, StopIs};
 ghost use Rattle.script_machine.specs.Script.{Statement, Script, Then};
 ghost use Rattle.script_machine.specs.Words.{Words, seen_words};
 ghost use Rattle.evaluate.specs.Seen.{seen, sheet_of, arguments_at, fields_at, inputs_at};
+ghost use Rattle.evaluate.specs.Stops.{IsOfValuesOrMemory};
 
 use crate::evaluating::argument;
 use crate::linked::linked;
@@ -74,6 +75,7 @@ pub fn only_input<'p, R: Rng + Drop>(
     requires one { length (inputs_at view.now block) ≡ 1 }
     ensures ok { IfOk result (λ a. (s : Statement) → (rest : Script) → script (sheet_of view.now) (Some block) ≡ Then s rest → evaluated (seen view.now) s (seen_words R.stream words.old) ≡ Goes (record { value = arguments_of (pair_of a ∷ []) (fields_at view.now block); words = seen_words R.stream words.new })) }
     ensures stop { (s : Statement) → (rest : Script) → script (sheet_of view.now) (Some block) ≡ Then s rest → StopIs result (evaluated (seen view.now) s (seen_words R.stream words.old)) }
+    ensures kind { IfErr result IsOfValuesOrMemory }
 {
     let _cached = linked(view, block);
     let _ranks = view.project.rank(view.target, block);

@@ -9,3 +9,4 @@ mod Rounds
 mod Edging
 pub mod Fired
 pub mod Headed
+pub mod Stopping

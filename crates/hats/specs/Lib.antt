@@ -3,3 +3,4 @@ pub mod Fitting
 pub mod Started
 pub mod Rounds
 pub mod Edges
+pub mod Stops

@@ -1,6 +1,6 @@
 //! Starting the hats of a filter.
 
-ghost use Rattle.std.specs.Prelude.{◌≡◌, ℕ, ◌<◌, ◌≤◌, ◌^◌, [], length, slice_get, true, false, Some, IfOk, OnOk};
+ghost use Rattle.std.specs.Prelude.{◌≡◌, ℕ, ◌<◌, ◌≤◌, ◌^◌, [], length, slice_get, true, false, Some, IfOk, IfErr, OnOk};
 ghost use Rattle.project_check.specs.Loaded.{program_of, tables_of, blocks_at, sheet_at};
 ghost use Rattle.project_file.specs.Linked.{IsClosed};
 ghost use Rattle.script_machine.specs.Outcome.{Goes, StopIs};
@@ -10,6 +10,7 @@ ghost use Rattle.thread_frames.specs.Fit.{Fits};
 ghost use Rattle.thread_frames.specs.Threads.{frames};
 ghost use Rattle.hats.specs.Fitting.{in_round};
 ghost use Rattle.hats.specs.Started.{crowd_of};
+ghost use Rattle.hats.specs.Stops.{IsOfThreadsOrMemory};
 ghost use Rattle.hats.specs.Rounds.{passes, hats_in, hats_of, hats_by, hats_at, hats_among, has_hats as has_hats_by, IsKept};
 
 use crate::fitting::{is_click, is_in_round, is_meant, is_there, kind_of, next_of, restarts};
@@ -216,6 +217,7 @@ pub fn start(
     requires few { next.old < 2 ^ 62 }
     ensures ok { IfOk result (λ serials. start_all frames running (starts (program_of project.now) filter.now targets.now) (record { threads = threads.old; next = next.old; serials = [] }) ≡ Goes (record { threads = threads.new; next = next.new; serials = serials })) }
     ensures stop { StopIs result (start_all frames running (starts (program_of project.now) filter.now targets.now) (record { threads = threads.old; next = next.old; serials = [] })) }
+    ensures kind { IfErr result IsOfThreadsOrMemory }
     ensures fits { Everyone (Fits (λ t. sheet_at t project.now)) threads.old → Everyone (Fits (λ t. sheet_at t project.now)) threads.new }
     ensures rising { next.old ≤ next.new }
     ensures few { next.new < 2 ^ 62 }

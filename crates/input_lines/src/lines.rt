@@ -1,12 +1,13 @@
 //! What a line does.
 
-ghost use Rattle.std.specs.Prelude.{◌≡◌, false, IfOk};
+ghost use Rattle.std.specs.Prelude.{◌≡◌, false, IfErr, IfOk};
 ghost use Rattle.script_machine.specs.Line as machine;
 ghost use Rattle.script_machine.specs.Outcome.{Goes, StopIs};
 ghost use Rattle.project_check.specs.Loaded.{program_of};
 ghost use Rattle.executions.specs.Resting.{IsIdle};
 ghost use Rattle.executions.specs.Seen.{seen};
 ghost use Rattle.input_lines.specs.Frames.{is_frame};
+ghost use Rattle.input_lines.specs.Stops.{IsOfLinesOrMemory};
 
 use crate::clicks::click;
 use crate::flags::flag;
@@ -14,9 +15,71 @@ use crate::keys::press;
 use executions::State;
 use project_check::Project;
 use promises::answer;
+use scratch_values::BoundText;
 use script_machine::Line;
 use script_words::{Rng, Stop};
 use std::alloc::Global;
+
+// Answers the first question with a text that stays with its line.
+fn answer_with<R: Rng + Drop>(
+    state: &mut State<R>,
+    alloc: Global,
+    project: &Project,
+    text: &BoundText,
+) -> Result<(), Stop>
+    requires { IsIdle project.now state.old }
+    ensures ok { IfOk result (λ _. machine.answered state.old.devices.questions (machine.with_answer text.now (seen R.stream project.now state.old)) ≡ Goes (seen R.stream project.now state.new)) }
+    ensures stop { StopIs result (machine.answered state.old.devices.questions (machine.with_answer text.now (seen R.stream project.now state.old))) }
+    ensures kept { IfOk result (λ _. IsIdle project.now state.new) }
+{
+    match text.clone() {
+        Ok(text) => answer(state, alloc, project, text),
+        Err(_) => Err(Stop::NoMemory),
+    }
+}
+
+// What a line does that is no frame.
+fn apply<R: Rng + Drop>(
+    state: &mut State<R>,
+    alloc: Global,
+    project: &Project,
+    line: &Line,
+) -> Result<(), Stop>
+    requires idle { IsIdle project.now state.old }
+    requires no_frame { is_frame line.now ≡ false }
+    ensures ok { IfOk result (λ _. machine.after (program_of project.now) line.now (seen R.stream project.now state.old) ≡ Goes (seen R.stream project.now state.new)) }
+    ensures stop { StopIs result (machine.after (program_of project.now) line.now (seen R.stream project.now state.old)) }
+    ensures kept { IfOk result (λ _. IsIdle project.now state.new) }
+{
+    match line {
+        Line::Nothing => Ok(()),
+        Line::Flag => flag(state, alloc, project),
+        Line::Stop => {
+            state.stop_all(project);
+            Ok(())
+        }
+        Line::KeyDown(key) => press(state, alloc, project, *key),
+        Line::KeyUp(key) => {
+            state.devices.key_up(key);
+            Ok(())
+        }
+        Line::Mouse { x, y } => {
+            state.devices.set_mouse(*x, *y);
+            Ok(())
+        }
+        Line::Button(down) => {
+            state.devices.set_button(*down);
+            Ok(())
+        }
+        Line::Click(place) => click(state, alloc, project, *place),
+        Line::Answer(text) => answer_with(state, alloc, project, text),
+        Line::Turbo(on) => {
+            state.devices.set_turbo(*on);
+            Ok(())
+        }
+        Line::Frame(_) => unreachable!(),
+    }
+}
 
 /// Applies a line of an input script that is no frame. The green flag stops everything, sets the answer to the empty text,
 /// resets the timer, forgets the values of edge hats, and starts the flag hats (scratch-vm, engine/runtime.js, greenFlag);
@@ -30,40 +93,14 @@ pub fn apply_line<R: Rng + Drop>(
     state: &mut State<R>,
     alloc: Global,
     project: &Project,
-    line: Line,
+    line: &Line,
 ) -> Result<(), Stop>
     requires idle { IsIdle project.now state.old }
-    requires no_frame { is_frame line ≡ false }
-    ensures ok { IfOk result (λ _. machine.after (program_of project.now) line (seen R.stream project.now state.old) ≡ Goes (seen R.stream project.now state.new)) }
-    ensures stop { StopIs result (machine.after (program_of project.now) line (seen R.stream project.now state.old)) }
+    requires no_frame { is_frame line.now ≡ false }
+    ensures ok { IfOk result (λ _. machine.after (program_of project.now) line.now (seen R.stream project.now state.old) ≡ Goes (seen R.stream project.now state.new)) }
+    ensures stop { StopIs result (machine.after (program_of project.now) line.now (seen R.stream project.now state.old)) }
+    ensures kind { IfErr result IsOfLinesOrMemory }
     ensures kept { IfOk result (λ _. IsIdle project.now state.new) }
 {
-    match line {
-        Line::Nothing => Ok(()),
-        Line::Flag => flag(state, alloc, project),
-        Line::Stop => {
-            state.stop_all(project);
-            Ok(())
-        }
-        Line::KeyDown(key) => press(state, alloc, project, key),
-        Line::KeyUp(key) => {
-            state.devices.key_up(&key);
-            Ok(())
-        }
-        Line::Mouse { x, y } => {
-            state.devices.set_mouse(x, y);
-            Ok(())
-        }
-        Line::Button(down) => {
-            state.devices.set_button(down);
-            Ok(())
-        }
-        Line::Click(place) => click(state, alloc, project, place),
-        Line::Answer(text) => answer(state, alloc, project, text),
-        Line::Turbo(on) => {
-            state.devices.set_turbo(on);
-            Ok(())
-        }
-        Line::Frame(_) => unreachable!(),
-    }
+    apply(state, alloc, project, line)
 }

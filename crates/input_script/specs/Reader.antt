@@ -1,14 +1,16 @@
 -- Where the reader of an input script stands, what it reads next, and what it answers. docs/formats.md has the lines.
-use Rattle.std.specs.Prelude.{◌≡◌, ℕ, ◌+◌, ◌≤◌, ◌^◌, ◌*◌, List, [], ◌∷◌, drop, Option, None, Some, Result, Ok, Err}
+use Rattle.std.specs.Prelude.{◌≡◌, ℕ, ◌==◌, ◌+◌, ◌≤◌, ◌^◌, ◌*◌, List, [], ◌∷◌, drop, Option, None, Some, Result, Ok, Err}
+use Rattle.std.specs.List.{after_first, before_first}
 use Rattle.script_machine.specs.declared.lines.Budget.{Budget}
 use Rattle.script_machine.specs.declared.lines.Line.{Line}
 use Rattle.script_machine.specs.declared.lines.Line.TheVariants.{Frame}
 use Rattle.script_machine.specs.declared.lines.LineRefusal.{LineRefusal}
 use Rattle.script_machine.specs.declared.lines.LineRefusal.TheVariants.{NotUtf8, UnknownLine, BadNumber, OutOfRange, ClockBack, NoMemory}
-use Rattle.script_machine.specs.ScriptText.{Reading, Good, Refused, reading_of, clock_after}
+use Rattle.script_machine.specs.ScriptText.{Reading, Good, Refused, reading_of, clock_after, lines_of}
 
--- the lines that are left, how many were read, and the last clock reading
+-- the bytes that are left, the lines in them, how many were read, and the last clock reading
 pub record Reader : Type 0 where
+  pub rest : List ℕ
   pub lines : List (List ℕ)
   pub number : ℕ
   pub last : ℕ
@@ -22,9 +24,21 @@ first_reading n last (line ∷ lines) = Some (reading_of n last line)
 abbrev pub next_reading : Reader → Option Reading
 next_reading s = first_reading (s.number + 1) s.last s.lines
 
+-- the first line of these bytes, without its end
+abbrev pub line_in : List ℕ → List ℕ
+line_in bytes = before_first (λ b. b == 10) bytes
+
+-- what stands behind it and its end
+abbrev pub behind_line : List ℕ → List ℕ
+behind_line bytes = after_first (λ b. b == 10) bytes
+
+-- the lines of all these bytes are their first one, and then those of the rest
+abbrev pub IsLineBefore : (all rest : List ℕ) → Type 0
+IsLineBefore all rest = lines_of all ≡ line_in all ∷ lines_of rest
+
 -- the reader behind a good line
 abbrev pub behind : Line → Reader → Reader
-behind l s = record { lines = drop 1 s.lines; number = s.number + 1; last = clock_after s.last (Good l) }
+behind l s = record { rest = behind_line s.rest; lines = drop 1 s.lines; number = s.number + 1; last = clock_after s.last (Good l) }
 
 -- the reader behind what was read; at the end it stays
 abbrev pub reader_after : Option Line → Reader → Reader

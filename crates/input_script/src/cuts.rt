@@ -3,6 +3,7 @@
 ghost use Rattle.std.specs.Prelude.{◌≡◌, ◌<◌, ◌==◌, [], ◌∷◌, length, IfNone, IfSome};
 ghost use Rattle.std.specs.List.{position_from, position_or_len, after_first};
 ghost use Rattle.script_machine.specs.ScriptText.{lines_of, words_of};
+ghost use Rattle.input_script.specs.Reader.{behind_line, line_in};
 
 // The place of the first line end.
 fn line_end(script: &[u8]) -> Option<usize>
@@ -26,6 +27,8 @@ fn line_len(script: &[u8]) -> usize
 pub(crate) fn first_line(script: &[u8]) -> Option<(&[u8], &[u8])>
     ensures end { IfNone result (script.now ≡ []) }
     ensures line { IfSome result (λ x. lines_of script.now ≡ x.0.now ∷ lines_of x.1.now) }
+    ensures rest { IfSome result (λ x. x.1.now ≡ behind_line script.now) }
+    ensures first { IfSome result (λ x. x.0.now ≡ line_in script.now) }
     ensures shorter { IfSome result (λ x. length x.1.now < length script.now) }
 {
     if script.is_empty() {

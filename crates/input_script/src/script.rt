@@ -2,7 +2,7 @@
 
 ghost use Rattle.std.specs.Prelude.{◌≡◌, ◌<◌, IfOk, OnErr, IfSome, option_map, length};
 ghost use Rattle.script_machine.specs.ScriptText as text;
-ghost use Rattle.input_script.specs.Reader.{IsForward, Refuses, next_reading, reader_after};
+ghost use Rattle.input_script.specs.Reader.{IsForward, IsLineBefore, Refuses, next_reading, reader_after};
 
 use crate::cuts::first_line;
 use crate::reading::reading_of;
@@ -10,7 +10,8 @@ use script_machine::{Line, LineRefusal};
 use std::alloc::Global;
 use std::marker::Model;
 
-/// Reads a script line by line. Contracts see the lines that are left, how many were read, and the last clock reading.
+/// Reads a script line by line. Contracts see the bytes that are left, the lines in them, how many lines were read, and the
+/// last clock reading.
 #[derive(Drop)]
 pub struct Script<'a> {
     alloc: Global,
@@ -26,7 +27,7 @@ impl<'a> Model for Script<'a> {
 
     ghost Value = { Reader };
 
-    ghost view = { λ s. record { lines = lines_of s.rest.now; number = s.number; last = s.last } };
+    ghost view = { λ s. record { rest = s.rest.now; lines = lines_of s.rest.now; number = s.number; last = s.last } };
 
     ghost invariant = { λ s. s.number + length s.rest.now < 2 ^ 64 };
 }
@@ -44,7 +45,7 @@ fn clock_after(last: u64, line: &Line) -> u64
 impl<'a> Script<'a> {
     /// A reader of these bytes, before the first line; `clock` is the last clock reading before them, in milliseconds.
     pub fn new(alloc: Global, bytes: &'a [u8], clock: u64) -> Script<'a>
-        ensures { result ≡ record { lines = text.lines_of bytes.now; number = 0; last = clock } }
+        ensures { result ≡ record { rest = bytes.now; lines = text.lines_of bytes.now; number = 0; last = clock } }
     {
         Script {
             alloc,
@@ -52,6 +53,15 @@ impl<'a> Script<'a> {
             number: 0,
             last: clock,
         }
+    }
+
+    /// The bytes that it has not read yet: another reader can go on from there.
+    #[inline]
+    pub fn rest(&self) -> &'a [u8]
+        ensures rest { result.now ≡ self.now.rest }
+        ensures lines { self.now.lines ≡ text.lines_of result.now }
+    {
+        self.rest
     }
 
     /// The next line, or `None` exactly at the end. Each refusal has the line's number, from 1. The only error that is no
@@ -62,6 +72,7 @@ impl<'a> Script<'a> {
         ensures after { IfOk result (λ line. self.new ≡ reader_after line self.old) }
         ensures err { OnErr result (self.new ≡ self.old) }
         ensures shorter { IfOk result (λ line. IfSome line (λ _. length self.new.lines < length self.old.lines)) }
+        ensures parted { IfOk result (λ line. IfSome line (λ _. IsLineBefore self.old.rest self.new.rest)) }
         ensures forward { IfOk result (λ line. IfSome line (IsForward self.old.last)) }
     {
         let Some((bytes, after)) = first_line(self.rest) else {

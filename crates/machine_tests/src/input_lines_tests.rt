@@ -85,7 +85,7 @@ fn apply(
     requires no_frame { is_frame line ≡ false }
     ensures { IfOk result (λ _. IsIdle project.now state.new) }
 {
-    match apply_line(state, alloc, project, line) {
+    match apply_line(state, alloc, project, &line) {
         Ok(()) => Ok(()),
         Err(_) => Err(AllocError),
     }

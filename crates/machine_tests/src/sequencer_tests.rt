@@ -44,7 +44,7 @@ fn a_run_moves_a_line_at_a_time(rt: HostRuntime) {
     assert_eq!(rt; run.frame_number(), 0);
     assert_eq!(rt; run.next_thread(), 1);
     assert_eq!(rt; run.next_instance(), 1);
-    match run.apply_line(&project, Line::Flag) {
+    match run.apply_line(&project, &Line::Flag) {
         Ok(()) => {}
         Err(_) => panic!(rt; "stopped"),
     }

@@ -1,5 +1,6 @@
 -- What the levels of a player's thread are that a saved thread tells.
-use Rattle.std.specs.Prelude.{◌≡◌, ℕ, true, false, List, length, Option, Some, None}
+use Rattle.std.specs.Prelude.{◌≡◌, ℕ, true, false, List, length, reverse, Option, Some, None, option_map, Vec}
+use Rattle.std.specs.declared.alloc.Global.{Global}
 use Rattle.script_machine.specs.Tasks.{Task}
 use Rattle.project_check.specs.declared.project.Project.{Project}
 use Rattle.project_check.specs.Loaded.{sheet_at}
@@ -34,6 +35,10 @@ pub record IsMade (p : Project) (t : Told) (x : SavedThread) (levels : List Leve
   pub count : length levels ≡ length x.levels
   pub told : thread_told (task_with p (target_of t x) x levels) ≡ x
   pub legal : IsLegalThread (basis_of p) t.run.targets t.run.devices (task_with p (target_of t x) x levels)
+
+-- levels that are given from the bottom, the top one first
+abbrev pub top_first : Option (Vec Level Global) → Option (List Level)
+top_first o = option_map (λ levels. reverse levels.items) o
 
 -- there are such levels, or the thread breaks a rule
 abbrev pub IsRead : Project → Told → SavedThread → Option (List Level) → Type 0

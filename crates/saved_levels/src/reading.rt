@@ -13,12 +13,13 @@ ghost use Rattle.saved_rules.specs.Basis.{basis_of, script_under};
 ghost use Rattle.saved_rules.specs.Rules.{is_short, target_of, values_kept};
 ghost use Rattle.saved_rules.specs.RunShapes.{Told};
 ghost use Rattle.saved_levels.specs.Making.{is_short_level, keeps_nothing};
-ghost use Rattle.saved_levels.specs.Read.{IsRead};
+ghost use Rattle.saved_levels.specs.Read.{IsRead, top_first};
 ghost use Rattle.saved_levels.specs.Standing.{Places, Wholes, whole_of};
 ghost use Rattle.saved_levels.specs.Waits.{TellsOf};
 
 use crate::chains::linked;
 use crate::floors::{Site, floor_on};
+use crate::making::level;
 use crate::stacking::{all_stacked, topped};
 use crate::waiting::Waiting;
 use opcode_table::{Role, spec};
@@ -27,7 +28,7 @@ use project_file::{Block, Code};
 use saved_parts::{ToldKept, ToldLevel, ToldThread};
 use script_machine::{Status, TargetId};
 use std::alloc::{AllocError, Global};
-use thread_frames::Levels;
+use thread_frames::Level;
 
 // Whether an opcode is that of a hat.
 fn is_hat(code: &Code) -> bool
@@ -88,8 +89,12 @@ fn is_nothing(kept: &ToldKept) -> bool
 
 // The one level of a thread that has nothing left to do, which is its only one and keeps nothing. The only error is want of
 // memory.
-fn with_nothing(alloc: Global, kept: &ToldKept, is_only: bool) -> Result<Option<Levels>, AllocError>
-    ensures { IfOk result (λ o. o ≡ (if keeps_nothing (kept_of kept.now) && is_only then Some (new_level None false ∷ []) else None)) }
+fn with_nothing(
+    alloc: Global,
+    kept: &ToldKept,
+    is_only: bool,
+) -> Result<Option<Vec<Level>>, AllocError>
+    ensures { IfOk result (λ o. top_first o ≡ (if keeps_nothing (kept_of kept.now) && is_only then Some (new_level None false ∷ []) else None)) }
 {
     if !is_nothing(kept) {
         return Ok(None);
@@ -97,8 +102,8 @@ fn with_nothing(alloc: Global, kept: &ToldKept, is_only: bool) -> Result<Option<
     if !is_only {
         return Ok(None);
     }
-    let mut levels = Levels::new(alloc);
-    levels.push(None, false)?;
+    let mut levels = Vec::new(alloc);
+    levels.push(level(alloc, None, false, ToldKept::Nothing)?)?;
     Ok(Some(levels))
 }
 
@@ -110,11 +115,11 @@ fn with_block(
     wanted: u64,
     kept: ToldKept,
     under: Vec<ToldLevel>,
-) -> Result<Option<Levels>, AllocError>
+) -> Result<Option<Vec<Level>>, AllocError>
     requires target { site.now.target < length (tables_of site.now.project.now) }
     requires short { list_all is_short (values_kept (kept_of kept)) ≡ true }
     requires all_short { list_all is_short_level (map level_of under.items) ≡ true }
-    ensures { IfOk result (λ o. Wholes site.now (length under.items + 1) (whole_of site.now clock (kept_of kept) wanted (map level_of under.items)) o) }
+    ensures { IfOk result (λ o. Wholes site.now (length under.items + 1) (whole_of site.now clock (kept_of kept) wanted (map level_of under.items)) (top_first o)) }
 {
     let mut made = match all_stacked(alloc, site, under) {
         Ok(Some(made)) => made,
@@ -125,7 +130,7 @@ fn with_block(
     match topped(alloc, site, &floor, clock, wanted, kept) {
         Ok(Some(level)) => {
             made.push(level)?;
-            Ok(Some(Levels::from_vec(made)))
+            Ok(Some(made))
         }
         Ok(None) => Ok(None),
         Err(error) => Err(error),
@@ -140,10 +145,10 @@ fn placed(
     serial: u64,
     status: Status,
     told: Vec<ToldLevel>,
-) -> Result<Option<Levels>, AllocError>
+) -> Result<Option<Vec<Level>>, AllocError>
     requires target { site.now.target < length (tables_of site.now.project.now) }
     requires short { list_all is_short_level (map level_of told.items) ≡ true }
-    ensures { IfOk result (λ o. Places site.now waiting.now serial status (reverse (map level_of told.items)) o) }
+    ensures { IfOk result (λ o. Places site.now waiting.now serial status (reverse (map level_of told.items)) (top_first o)) }
 {
     let mut told = told;
     let ToldLevel { block, kept } = match told.pop() {
@@ -159,7 +164,7 @@ fn placed(
     }
 }
 
-/// The levels of a thread of a target that a saved run tells, given whom its questions and timers name; None exactly where
+/// The levels, from the bottom, of a thread of a target that a saved run tells, given whom its questions and timers name; None exactly where
 /// they stand for no pending list that keeps the rules. Where there are some, the number of the hat is that of a block. The
 /// values of parameters are short, as a rule of saved runs has it. The only error is want of memory.
 pub fn levels_of(
@@ -168,9 +173,9 @@ pub fn levels_of(
     waiting: &Waiting,
     thread: ToldThread,
     target: TargetId,
-) -> Result<Option<Levels>, AllocError>
+) -> Result<Option<Vec<Level>>, AllocError>
     requires { list_all (λ l. list_all is_short (values_kept l.kept)) (thread_of thread).levels ≡ true }
-    ensures levels { IfOk result (λ o. (t : Told) → TellsOf waiting.now t.run.devices → target_of t (thread_of thread) ≡ target → IsRead project.now t (thread_of thread) o) }
+    ensures levels { IfOk result (λ o. (t : Told) → TellsOf waiting.now t.run.devices → target_of t (thread_of thread) ≡ target → IsRead project.now t (thread_of thread) (top_first o)) }
     ensures hat { IfOk result (λ o. is_some o ≡ true → thread.hat < 2 ^ 32) }
 {
     let ToldThread {

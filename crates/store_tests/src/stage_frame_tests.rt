@@ -3,7 +3,7 @@
 use devices::Devices;
 use project_json::read as read_json;
 use scratch_values::{BoundText, Value};
-use stage_frame::{View, frame_text};
+use stage_frame::{FrameWriter, View};
 use std::process::Abort;
 use target_records::{Records, read};
 use targets::Targets;
@@ -60,7 +60,8 @@ fn told(rt: &(impl Abort + AllocGlobal), world: &World) -> Vec<u8> {
         variables: &world.variables,
         devices: &world.devices,
     };
-    frame_text(rt.alloc(), &world.records, &view).expect(rt, "memory")
+    let writer = FrameWriter::new(rt.alloc(), &world.records).expect(rt, "memory");
+    writer.text(rt.alloc(), &view).expect(rt, "memory")
 }
 
 // Whether some bytes stand within others.

@@ -1,12 +1,12 @@
 -- Threads that are made again from their parts.
-use Rattle.std.specs.Prelude.{List, map, None}
+use Rattle.std.specs.Prelude.{List, map, reverse, None}
 use Rattle.script_machine.specs.Places.{Places}
 use Rattle.thread_frames.specs.declared.parts.ThreadPart.{ThreadPart}
 use Rattle.thread_frames.specs.Threads.{Thread}
 
--- the thread that has these parts
+-- the thread that has these parts, whose levels are given from the bottom
 abbrev pub thread_of : ThreadPart → Thread
-thread_of p = record { serial = p.serial; of = p.of; target = p.target; hat = p.hat; status = p.status; levels = p.levels }
+thread_of p = record { serial = p.serial; of = p.of; target = p.target; hat = p.hat; status = p.status; levels = reverse p.levels.items }
 
 -- the threads that have these parts, listed in their order; none is detached
 abbrev pub threads_of : List ThreadPart → Places Thread

@@ -6,14 +6,14 @@ ghost use Rattle.script_machine.specs.Starting.{open_levels};
 ghost use Rattle.thread_frames.specs.Rebuilding.{threads_of};
 ghost use Rattle.thread_frames.specs.Threads.{frames};
 
-use crate::levels::Levels;
+use crate::level::Level;
 use crate::thread::Thread;
 use crate::threads::Threads;
 use script_machine::{BlockId, InstanceId, Serial, Status, TargetId};
 use std::alloc::{AllocError, Global};
 
 /// The parts of a thread: its number, its instance and the target of that, the block of its hat, how it stands, and its
-/// levels (scratch-vm, engine/thread.js).
+/// levels from the bottom (scratch-vm, engine/thread.js).
 #[derive(Debug, Drop)]
 pub struct ThreadPart {
     pub serial: Serial,
@@ -21,7 +21,7 @@ pub struct ThreadPart {
     pub target: TargetId,
     pub hat: BlockId,
     pub status: Status,
-    pub levels: Levels,
+    pub levels: Vec<Level>,
 }
 
 impl Threads {

@@ -75,7 +75,7 @@ impl Thread {
             target: part.target,
             hat: part.hat,
             status: part.status,
-            levels: part.levels,
+            levels: Levels::from_vec(part.levels),
         }
     }
 

@@ -1,22 +1,26 @@
 //! Levels and threads that are made again.
 
 use super::{CAT, DOG, FIRST, FLAG, INNER, KEY, SPRITE, block_at, serial_at, status_at};
-use script_machine::{Context, Serial, Status, Which};
+use script_machine::{BlockId, Context, Serial, Status, Which};
 use thread_frames::{Level, Levels, ThreadPart, Threads};
+
+// A level that was just opened.
+fn level_of(block: Option<BlockId>) -> Level {
+    Level {
+        block,
+        is_loop: false,
+        warp: true,
+        context: Context::Fresh,
+        params: None,
+    }
+}
 
 // The last level that is given is the top one.
 #[test]
 fn levels_are_made_from_the_bottom(rt: HostRuntime) {
     let mut given = Vec::new(rt.alloc());
     for block in [FIRST, INNER] {
-        let level = Level {
-            block,
-            is_loop: false,
-            warp: true,
-            context: Context::Fresh,
-            params: None,
-        };
-        given.push(level).expect(&rt, "memory");
+        given.push(level_of(block)).expect(&rt, "memory");
     }
     let levels = Levels::from_vec(given);
     assert_eq!(rt; levels.depth(), 2);
@@ -27,12 +31,12 @@ fn levels_are_made_from_the_bottom(rt: HostRuntime) {
     );
 }
 
-// A thread of the dog that waits for the next pass, with two levels, and then one of the cat that is done.
+// A thread of the dog that waits for the next pass, with two levels, the last of which is the top one, and then one of the cat that is done.
 #[test]
 fn threads_are_made_from_their_parts(rt: HostRuntime) {
-    let mut levels = Levels::new(rt.alloc());
-    levels.push(FIRST, false).expect(&rt, "memory");
-    levels.push(INNER, false).expect(&rt, "memory");
+    let mut levels = Vec::new(rt.alloc());
+    levels.push(level_of(FIRST)).expect(&rt, "memory");
+    levels.push(level_of(INNER)).expect(&rt, "memory");
     let dog = ThreadPart {
         serial: Serial(11),
         of: DOG,
@@ -47,7 +51,7 @@ fn threads_are_made_from_their_parts(rt: HostRuntime) {
         target: SPRITE,
         hat: FLAG,
         status: Status::Done,
-        levels: Levels::new(rt.alloc()),
+        levels: Vec::new(rt.alloc()),
     };
     let mut parts = Vec::new(rt.alloc());
     parts.push(dog).expect(&rt, "memory");

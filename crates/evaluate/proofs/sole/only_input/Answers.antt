@@ -6,6 +6,7 @@ use Rattle.script_machine.specs.Outcome.{StopIs}
 use Rattle.script_machine.specs.Words.{seen_words}
 use Rattle.project_check.specs.Loaded.{ranks_at}
 use Rattle.evaluate.specs.Seen.{seen, sheet_of}
+use Rattle.evaluate.proofs.Stopping.{arguments_stop}
 use Rattle.evaluate.proofs.Values.{evaluated-told}
 use Rattle.evaluate.proofs.sole.only_input.Goals as goal
 
@@ -27,3 +28,6 @@ returns-clause-stop g c = λ s rest e.
     let told = c.a_script_is_told.ensures (sheet_of v) (ranks_at v.target v.project.now) c.args.block block c.rank-ranks.ensures.ranks c.blocks-closed.ensures.closed c.linked-cached.ensures.block in
     let same : told.0 ≡ s = cc (told.1, e) in
     subst (λ o. StopIs c.sole.result o) (sym (ap (λ t. evaluated (seen v) t start) (sym same) ∙ evaluated-told v c.args.block block c.linked-cached.ensures.block start told.0 told.2)) c.sole.ensures.stop
+
+pub returns-clause-kind : goal.returns-clause-kind
+returns-clause-kind g c = arguments_stop c.sole.result c.args.view.now c.args.block (seen_words g.R.Rng.stream c.args.words.now) c.sole.ensures.stop

@@ -6,6 +6,7 @@ use Rattle.project_file.specs.Trees.{script}
 use Rattle.saved_parts.specs.Telling.{level_of, thread_of}
 use Rattle.saved_rules.specs.Basis.{basis_of, script_under}
 use Rattle.saved_levels.specs.Making.{is_short_level}
+use Rattle.saved_levels.specs.Read.{top_first}
 use Rattle.saved_levels.specs.Standing.{Places}
 use Rattle.saved_levels.specs.declared.floors.Site.{Site}
 use Rattle.saved_levels.proofs.Placing.{read, short_told}
@@ -22,6 +23,6 @@ returns-clause-levels c =
     let hat = sym c.in-Some.ensures.under ∙ ap (λ o. Some (script (sheet_at c.args.target p) o)) (sym c.linked-first.ensures) in
     IfOk-weaker c.placed.result _ _
     (λ o h t tells at.
-    read site c.args.waiting.now t thread tells at o (ap (λ n. script_under n thread.hat (basis_of p)) at ∙ hat)
-    (subst (λ xs. Places site c.args.waiting.now thread.serial thread.status (reverse (map level_of xs)) o) c.into_vec.ensures h))
+    read site c.args.waiting.now t thread tells at (top_first o) (ap (λ n. script_under n thread.hat (basis_of p)) at ∙ hat)
+    (subst (λ xs. Places site c.args.waiting.now thread.serial thread.status (reverse (map level_of xs)) (top_first o)) c.into_vec.ensures h))
     c.placed.ensures

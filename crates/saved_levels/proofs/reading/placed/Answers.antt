@@ -3,6 +3,7 @@ use Rattle.std.proofs.Common.{◌≡◌, ◌∷◌, ◌==◌, ◌+◌, None, fal
 use Rattle.std.proofs.lemmas.List.{length-map, length-reverse}
 use Rattle.std.proofs.lemmas.Result.{IfOk-weaker}
 use Rattle.saved_parts.specs.Telling.{kept_of, level_of}
+use Rattle.saved_levels.specs.Read.{top_first}
 use Rattle.saved_levels.specs.Standing.{Places, Wholes, whole_of}
 use Rattle.saved_levels.proofs.Placing.{told_turned, placed_off, placed_block, placed_nothing}
 use Rattle.saved_levels.proofs.reading.placed.Goals as goal
@@ -23,10 +24,10 @@ returns-in-Some-block c =
     let all = map level_of rest in
     let k = kept_of c.in-Some.top.kept in
     IfOk-weaker c.with_block.result _ _
-    (λ o h. subst (λ ls. Places c.args.site.now c.args.waiting.now c.args.serial c.args.status ls o)
+    (λ o h. subst (λ ls. Places c.args.site.now c.args.waiting.now c.args.serial c.args.status ls (top_first o))
     (ap (λ b. record { block = b; kept = k } ∷ reverse all) (sym c.in-Some-block.is) ∙ sym turned)
-    (placed_block c.args.site.now c.args.waiting.now c.args.serial c.args.status k c.in-Some-block.wanted all o (sym c.fits.ensures ∙ on)
-    (subst (λ n. Wholes c.args.site.now (n + 1) (whole_of c.args.site.now c.args.waiting.now.clock k c.in-Some-block.wanted all) o) (sym (length-map rest level_of)) h)))
+    (placed_block c.args.site.now c.args.waiting.now c.args.serial c.args.status k c.in-Some-block.wanted all (top_first o) (sym c.fits.ensures ∙ on)
+    (subst (λ n. Wholes c.args.site.now (n + 1) (whole_of c.args.site.now c.args.waiting.now.clock k c.in-Some-block.wanted all) (top_first o)) (sym (length-map rest level_of)) h)))
     c.with_block.ensures
 
 pub returns-in-None-block : goal.returns-in-None-block
@@ -37,8 +38,8 @@ returns-in-None-block c =
     let all = map level_of rest in
     let k = kept_of c.in-Some.top.kept in
     IfOk-weaker c.with_nothing.result _ _
-    (λ o h. subst (λ ls. Places c.args.site.now c.args.waiting.now c.args.serial c.args.status ls o)
+    (λ o h. subst (λ ls. Places c.args.site.now c.args.waiting.now c.args.serial c.args.status ls (top_first o))
     (ap (λ b. record { block = b; kept = k } ∷ reverse all) (sym c.in-None-block.is) ∙ sym turned)
-    (placed_nothing c.args.site.now c.args.waiting.now c.args.serial c.args.status k (reverse all) c.is_empty.result o (sym c.fits.ensures ∙ on)
+    (placed_nothing c.args.site.now c.args.waiting.now c.args.serial c.args.status k (reverse all) c.is_empty.result (top_first o) (sym c.fits.ensures ∙ on)
     (c.is_empty.ensures ∙ ap (λ xs. length xs == 0) c.as_slice.ensures.value ∙ ap (λ n. n == 0) (sym (length-reverse all ∙ length-map rest level_of))) h))
     c.with_nothing.ensures
