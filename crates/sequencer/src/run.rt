@@ -1,17 +1,22 @@
 //! A run.
 
-ghost use Rattle.std.specs.Prelude.{◌≡◌, ◌≤◌, false, IfOk, OnOk};
+ghost use Rattle.std.specs.Prelude.{◌≡◌, ◌≤◌, ◌<◌, ◌^◌, false, IfErr, IfOk, OnOk};
 ghost use Rattle.script_machine.specs.First.{first_world};
 ghost use Rattle.script_machine.specs.Frame as machine;
 ghost use Rattle.script_machine.specs.Line as lines;
 ghost use Rattle.script_machine.specs.Outcome.{Goes, StopIs};
 ghost use Rattle.script_machine.specs.Words.{seen_words};
+ghost use Rattle.script_machine.specs.declared.lines.Line.TheVariants.{Frame};
+ghost use Rattle.legal_worlds.specs.Runs.{KeepsLegal, OpensLegal};
+ghost use Rattle.executions.specs.Resting.{IsIdle};
 ghost use Rattle.project_check.specs.Loaded.{program_of};
 ghost use Rattle.sequencer.specs.Runs.{world_of, IsRunOf};
 ghost use Rattle.input_lines.specs.Frames.{is_frame};
+ghost use Rattle.input_lines.specs.Stops.{IsOfLinesOrMemory};
 
 use devices::Devices;
 use executions::State;
+use legal_worlds::{every_line_keeps_it_legal, the_first_world_is_legal};
 use project_check::Project;
 use script_machine::{Budget, Line};
 use script_words::{Counted, Rng, Stop};
@@ -33,28 +38,37 @@ impl<R: Rng + Drop> Run<R> {
     pub fn open(alloc: Global, project: &Project, words: Counted<R>) -> Result<Run<R>, AllocError>
         ensures world { IfOk result (λ run. world_of R.stream project.now run ≡ first_world (program_of project.now) (seen_words R.stream words)) }
         ensures fits { IfOk result (λ run. IsRunOf project.now run) }
+        ensures legal { IfOk result (λ run. OpensLegal (program_of project.now) (world_of R.stream project.now run)) }
     {
+        the_first_world_is_legal();
         let state = State::open(alloc, project, words)?;
         Ok(Run { alloc, state })
     }
 
-    /// The run that is in just this state, as a saved run that is read again.
-    pub fn rebuild(alloc: Global, state: State<R>) -> Run<R>
-        ensures { result.state ≡ state }
+    /// The run that is in just this state, which is one of the project between two lines, as a saved run that is read again
+    /// has it. It takes no memory.
+    pub fn rebuild(alloc: Global, project: &Project, state: State<R>) -> Run<R>
+        requires idle { IsIdle project.now state }
+        requires few { state.frame < 2 ^ 62 }
+        ensures state { result.state ≡ state }
+        ensures fits { IsRunOf project.now result }
     {
         Run { alloc, state }
     }
 
-    /// Applies a line of an input script that is no frame. `Stop` is the first limit that is met, and `NoMemory` only for
-    /// want of memory. After a stop the run is only dropped.
-    pub fn apply_line(&mut self, project: &Project, line: Line) -> Result<(), Stop>
+    /// Applies a line of an input script that is no frame. `Stop` is the first limit that is met: `Stack`, or `Counter` of
+    /// threads or of bubbles; and `NoMemory` only for want of memory. After a stop the run is only dropped.
+    pub fn apply_line(&mut self, project: &Project, line: &Line) -> Result<(), Stop>
         requires fits { IsRunOf project.now self.old }
-        requires event { is_frame line ≡ false }
-        ensures ok { OnOk result (lines.after (program_of project.now) line (world_of R.stream project.now self.old) ≡ Goes (world_of R.stream project.now self.new)) }
-        ensures stop { StopIs result (lines.after (program_of project.now) line (world_of R.stream project.now self.old)) }
+        requires event { is_frame line.now ≡ false }
+        ensures ok { OnOk result (lines.after (program_of project.now) line.now (world_of R.stream project.now self.old) ≡ Goes (world_of R.stream project.now self.new)) }
+        ensures stop { StopIs result (lines.after (program_of project.now) line.now (world_of R.stream project.now self.old)) }
+        ensures kind { IfErr result IsOfLinesOrMemory }
         ensures fits { OnOk result (IsRunOf project.now self.new) }
         ensures clock { OnOk result (self.new.state.devices.clock ≡ self.old.state.devices.clock) }
+        ensures legal { OnOk result (KeepsLegal (program_of project.now) line.now (world_of R.stream project.now self.old) (world_of R.stream project.now self.new)) }
     {
+        every_line_keeps_it_legal();
         input_lines::apply_line(&mut self.state, self.alloc, project, line)
     }
 
@@ -68,7 +82,9 @@ impl<R: Rng + Drop> Run<R> {
         ensures stop { StopIs result (machine.frame (program_of project.now) budget.now (world_of R.stream project.now self.old)) }
         ensures fits { OnOk result (IsRunOf project.now self.new) }
         ensures clock { OnOk result (self.new.state.devices.clock ≡ budget.now.clock) }
+        ensures legal { OnOk result (KeepsLegal (program_of project.now) (Frame budget.now) (world_of R.stream project.now self.old) (world_of R.stream project.now self.new)) }
     {
+        every_line_keeps_it_legal();
         frames::frame(&mut self.state, self.alloc, project, budget)
     }
 

@@ -2,22 +2,24 @@
 
 ghost use Rattle.std.specs.Prelude.{◌≡◌, IfOk};
 ghost use Rattle.script_machine.specs.FrameText as machine;
-ghost use Rattle.script_machine.specs.Program.{Program};
-ghost use Rattle.script_machine.specs.Tasks.{Task};
-ghost use Rattle.script_machine.specs.World.{World};
-ghost use Rattle.target_records.specs.Records.{records_in};
-ghost use Rattle.stage_frame.specs.Seen.{IsSeen};
+ghost use Rattle.project_check.specs.Loaded.{program_of};
+ghost use Rattle.sequencer.specs.Runs.{world_of};
 
-use crate::frame::View;
 use crate::writer::FrameWriter;
+use project_check::Project;
+use script_words::Rng;
+use sequencer::Run;
 use std::alloc::{AllocError, Global};
-use target_records::Records;
 
-/// The text of one frame, as `FrameWriter::text` gives it. The records are those with which the run began. The only error is
-/// want of memory.
-pub fn frame_text(alloc: Global, records: &Records, view: &View<'_>) -> Result<Vec<u8>, AllocError>
-    ensures { IfOk result (λ text. (p : Program) (w : World Task) → p.records ≡ records_in records.now → IsSeen view.now w → text.items ≡ machine.frame_text p w) }
+/// The text of the frame that a run of the project has just made (docs/formats.md). Where many frames of a run are written, a
+/// `FrameWriter` looks only once for what the monitors show. The only error is want of memory.
+pub fn frame_text<R: Rng + Drop>(
+    alloc: Global,
+    project: &Project,
+    run: &Run<R>,
+) -> Result<Vec<u8>, AllocError>
+    ensures { IfOk result (λ text. text.items ≡ machine.frame_text (program_of project.now) (world_of R.stream project.now run.now)) }
 {
-    let writer = FrameWriter::new(alloc, records)?;
-    writer.text(alloc, view)
+    let writer = FrameWriter::new(alloc, project.records())?;
+    writer.text_of(alloc, project, run)
 }

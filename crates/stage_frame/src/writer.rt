@@ -6,6 +6,9 @@ ghost use Rattle.stage_frame.specs.Found.{are_found};
 
 use crate::frame::{View, push_lines};
 use crate::watches::{Watch, all_found};
+use project_check::Project;
+use script_words::Rng;
+use sequencer::Run;
 use std::alloc::{AllocError, Global};
 use target_records::Records;
 
@@ -26,6 +29,8 @@ impl<'r> FrameWriter<'r> {
     ghost use Rattle.script_machine.specs.Tasks.{Task};
     ghost use Rattle.script_machine.specs.World.{World};
     ghost use Rattle.target_records.specs.Records.{records_in};
+    ghost use Rattle.project_check.specs.Loaded.{program_of};
+    ghost use Rattle.sequencer.specs.Runs.{world_of};
     ghost use Rattle.stage_frame.specs.Seen.{IsSeen};
     ghost use Rattle.stage_frame.specs.Writers.{records_of};
 
@@ -45,5 +50,26 @@ impl<'r> FrameWriter<'r> {
         let mut out = Vec::new(alloc);
         push_lines(&mut out, self.records, view, &self.watches)?;
         Ok(out)
+    }
+
+    /// The text of the frame that a run of the project has just made. The records of the writer are those of the project. The
+    /// only error is want of memory.
+    pub fn text_of<R: Rng + Drop>(
+        &self,
+        alloc: Global,
+        project: &Project,
+        run: &Run<R>,
+    ) -> Result<Vec<u8>, AllocError>
+        requires { records_of self.now ≡ (program_of project.now).records }
+        ensures { IfOk result (λ text. text.items ≡ frame_text (program_of project.now) (world_of R.stream project.now run.now)) }
+    {
+        let view = View {
+            frame: run.frame_number(),
+            words: run.words().drawn(),
+            targets: run.targets(),
+            variables: run.variables(),
+            devices: run.devices(),
+        };
+        self.text(alloc, &view)
     }
 }
