@@ -15,12 +15,9 @@ use Rattle.project_file.proofs.OneRefusal.{JsonLaws, one_refusal, accepted_is_no
 use Rattle.linked_blocks.specs.Kept.{AreChecked}
 use Rattle.report.specs.Counts.{AreCounts, counts_of}
 use Rattle.std.proofs.lemmas.Option.{same_Some}
-use Rattle.report.specs.Stages.{ToldOf}
-use Rattle.report.specs.declared.status.Status.{Status}
-use Rattle.report.specs.declared.status.Status.TheVariants.{Done, Usage, ReadFault, WriteFault, BadProject, TooLarge, NoMemory}
-use Rattle.report.specs.Promise.{project_limit, AnswerCause, Ending, said, too_large, ending_of, OfFile, Promised}
+use Rattle.report.specs.Promise.{project_limit, Ending, said, too_large, ending_of, OfFile, Promised, Found}
 use Rattle.report.specs.Unknown.{AreUnknown, all_unknown, tables_in}
-use Rattle.report.specs.Verdict.{Verdict, accepted, refused, IsDocument, IsCounted, IsVerdict, refusal_in}
+use Rattle.report.specs.Verdict.{Verdict, accepted, refused, IsDocument, IsCounted, IsVerdict}
 use Rattle.report.specs.declared.counts.Counts.{Counts}
 
 json_laws : JsonLaws
@@ -117,14 +114,8 @@ pub always : (P : Ending → Type 0) (held : Option Files) (name : List ℕ) →
 always P None name p = tt
 always P (Some files) name p = λ w of_file. p (ending_of (get files name) w)
 
--- what was told of a verdict tells its ending
-pub told_cause : (fetch_failed wanted write_failed : Type 0) (v : Verdict) (r : Option Refusal) (status : Status) → r ≡ refusal_in v → ToldOf r write_failed status → AnswerCause fetch_failed wanted (said v) status
-told_cause f w k (accepted c) r Done e h = (c, refl)
-told_cause f w k (refused s d names) r Done e h = absurd (let same : Some s ≡ None = sym e ∙ h in cc)
-told_cause f w k (accepted c) r (BadProject t) e h = absurd (let same : None ≡ Some t = sym e ∙ h in cc)
-told_cause f w k (refused s d names) r (BadProject t) e h = (d, names, ap (λ x. said (refused x d names)) (same_Some s t (sym e ∙ h)))
-told_cause f w k v r WriteFault e h = tt
-told_cause f w k v r NoMemory e h = inr tt
-told_cause f w k v r Usage e h = absurd h
-told_cause f w k v r ReadFault e h = absurd h
-told_cause f w k v r (TooLarge l) e h = absurd h
+-- and there is one
+pub found_verdict : (P : Ending → Type 0) (held : Option Files) (name bytes : List ℕ) (v : Verdict) → length bytes ≤ project_limit → IfSome held (λ files. get files name ≡ Some bytes) → IsVerdict bytes v → P (said v) → Found held name P
+found_verdict P None name bytes v h is one p = tt
+found_verdict P (Some files) name bytes v h is one p =
+    (v, subst (λ o. OfFile o v) (sym is) one, subst P (sym (within_limit (get files name) bytes v is h)) p)

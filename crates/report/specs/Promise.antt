@@ -1,17 +1,38 @@
--- THE PROMISE OF `report`, in words that the files beside this one define: Naming reads the words, Verdict is what is said
--- of a project file, Text and Advice are its text, line by line.
-use Rattle.std.specs.Prelude.{◌≡◌, ◌⊎◌, ℕ, ◌*◌, ◌^◌, nat_lt, List, [], length, Option, None, Some, IfSome, IsSome, if◌then◌else◌}
+-- THE PROMISE OF `report`, in words that the files beside this one define: Naming reads the words, Verdict is what is said of a
+-- project file, Text and Advice are its text, line by line. What is owed about faults and writes stands in
+-- call_outcomes/specs, over the course of a status.
+--
+-- The words `p.json`, over a shelf that holds a project of two targets under this name, write one text, by one write:
+--     The project loads.
+--     Stage and sprites: 2
+--     ..
+-- The status is Done, the file was fetched once, and the shelf holds what it held.
+use Rattle.std.specs.Prelude.{◌≡◌, ◌⊎◌, ℕ, ◌*◌, ◌^◌, nat_lt, List, [], ◌∷◌, length, Option, None, Some, IfSome, IsSome, if◌then◌else◌}
 use Rattle.std.specs.FinMap.{get}
-use Rattle.sv_channels.specs.Counts.{next_count, NoneRose}
+use Rattle.sv_channels.specs.Counts.{next_count}
 use Rattle.sv_channels.specs.Files.{Files}
-use Rattle.sv_channels.specs.Sink.{Gained, GainedPart}
+use Rattle.sv_channels.specs.Sink.{Gained}
+use Rattle.call_outcomes.specs.Course.{Course, usage, read_fault, write_fault, no_memory, silent, whole}
+use Rattle.call_outcomes.specs.Faults.{FaultCause, FetchFailed, WriteFailed, Wanted, HidesNothing}
+use Rattle.call_outcomes.specs.Idle.{IsIdle}
+use Rattle.call_outcomes.specs.Seen.{ShelfNow, SinkNow}
+use Rattle.call_outcomes.specs.Writes.{Wrote, IsSilent}
 use Rattle.project_json.specs.Tree.{Tree}
 use Rattle.report.specs.declared.counts.Counts.{Counts}
 use Rattle.report.specs.declared.status.Status.{Status}
 use Rattle.report.specs.declared.status.Status.TheVariants.{Done, Usage, ReadFault, WriteFault, BadProject, TooLarge, NoMemory}
 use Rattle.report.specs.Advice.{rule_of}
 use Rattle.report.specs.Verdict.{Verdict, accepted, refused, IsVerdict, verdict_text}
-use Rattle.report.specs.Naming.{name_of}
+
+-- the course of a status: all is written of a project that loads, and of one that is refused
+abbrev pub course : Status → Course
+course Done = whole
+course (BadProject r) = whole
+course Usage = usage
+course ReadFault = read_fault
+course WriteFault = write_fault
+course (TooLarge limit) = silent
+course NoMemory = no_memory
 
 -- 1. What the call does where nothing fails
 
@@ -31,10 +52,10 @@ ending_of None v = missing
 ending_of (Some bytes) v = if nat_lt project_limit (length bytes) then too_large project_limit else said v
 
 -- the text that is written, by one write
-abbrev pub text_of : Ending → List ℕ
-text_of missing = []
-text_of (too_large limit) = []
-text_of (said v) = verdict_text v
+abbrev pub texts_of : Ending → List (List ℕ)
+texts_of missing = []
+texts_of (too_large limit) = []
+texts_of (said v) = verdict_text v ∷ []
 
 -- 2. The causes of each status
 
@@ -43,10 +64,7 @@ abbrev pub Tells : Status → Ending → Type 0
 Tells Done ending = (c : Counts) × (ending ≡ said (accepted c))
 Tells (BadProject r) ending = (document : Option Tree) × (names : List (List ℕ)) × (ending ≡ said (refused r document names))
 Tells (TooLarge limit) ending = ending ≡ too_large limit
-Tells Usage ending = ⊥
-Tells ReadFault ending = ⊥
-Tells WriteFault ending = ⊥
-Tells NoMemory ending = ⊥
+Tells status ending = ⊥
 
 -- the file is held and within its limit
 abbrev pub IsFetched : Ending → Type 0
@@ -54,19 +72,14 @@ IsFetched missing = ⊥
 IsFetched (too_large limit) = ⊥
 IsFetched (said v) = Unit {0}
 
--- a fault only where its count rose; want of memory stands in no other status
-abbrev pub FaultCause : Type 0 → Type 0 → Status → Type 0
-FaultCause fetch_failed write_failed ReadFault = fetch_failed
-FaultCause fetch_failed write_failed WriteFault = write_failed
-FaultCause fetch_failed write_failed (BadProject r) = IsSome (rule_of r)
-FaultCause fetch_failed write_failed Done = Unit {0}
-FaultCause fetch_failed write_failed Usage = Unit {0}
-FaultCause fetch_failed write_failed (TooLarge limit) = Unit {0}
-FaultCause fetch_failed write_failed NoMemory = Unit {0}
+-- want of memory stands in no other status
+abbrev pub HoldsNoWant : Status → Type 0
+HoldsNoWant (BadProject r) = IsSome (rule_of r)
+HoldsNoWant status = Unit {0}
 
 -- every other status of words that have the form tells the ending; a write fault comes of a file that was fetched, and
 -- want of memory too, or it is the shelf's
-abbrev pub AnswerCause : Type 0 → Type 0 → Ending → Status → Type 0
+abbrev pub AnswerCause : (fetch_failed wanted : Type 0) → Ending → Status → Type 0
 AnswerCause fetch_failed wanted ending ReadFault = fetch_failed
 AnswerCause fetch_failed wanted ending WriteFault = IsFetched ending
 AnswerCause fetch_failed wanted ending NoMemory = wanted ⊎ IsFetched ending
@@ -75,54 +88,7 @@ AnswerCause fetch_failed wanted ending Done = Tells Done ending
 AnswerCause fetch_failed wanted ending (BadProject r) = Tells (BadProject r) ending
 AnswerCause fetch_failed wanted ending (TooLarge limit) = Tells (TooLarge limit) ending
 
--- no fetch failed in this call unless it is told, and no write failed unless it is told
-abbrev pub HidesNothing : (List ℕ → ℕ) → (List ℕ → ℕ) → ℕ → ℕ → Status → Type 0
-HidesNothing fetches fetches_now writes writes_now ReadFault = writes_now ≡ writes
-HidesNothing fetches fetches_now writes writes_now WriteFault = NoneRose fetches fetches_now
-HidesNothing fetches fetches_now writes writes_now Done = NoneRose fetches fetches_now × (writes_now ≡ writes)
-HidesNothing fetches fetches_now writes writes_now Usage = NoneRose fetches fetches_now × (writes_now ≡ writes)
-HidesNothing fetches fetches_now writes writes_now (BadProject r) = NoneRose fetches fetches_now × (writes_now ≡ writes)
-HidesNothing fetches fetches_now writes writes_now (TooLarge limit) = NoneRose fetches fetches_now × (writes_now ≡ writes)
-HidesNothing fetches fetches_now writes writes_now NoMemory = NoneRose fetches fetches_now × (writes_now ≡ writes)
-
--- 3. What was written, and by how many calls
-
--- the whole text, also of a project that is refused; after a failed write a first part of it; else nothing
-abbrev pub Wrote : Option (List ℕ) → Option (List ℕ) → List ℕ → Status → Type 0
-Wrote old new text Done = Gained old new text
-Wrote old new text (BadProject r) = Gained old new text
-Wrote old new text WriteFault = GainedPart old new text
-Wrote old new text Usage = Gained old new []
-Wrote old new text ReadFault = Gained old new []
-Wrote old new text (TooLarge limit) = Gained old new []
-Wrote old new text NoMemory = Gained old new []
-
--- what leaves nothing written, whatever is told of the files
-abbrev pub IsSilent : Option (List ℕ) → Option (List ℕ) → Status → Type 0
-IsSilent old new Usage = Gained old new []
-IsSilent old new ReadFault = Gained old new []
-IsSilent old new (TooLarge limit) = Gained old new []
-IsSilent old new NoMemory = Gained old new []
-IsSilent old new Done = Unit {0}
-IsSilent old new (BadProject r) = Unit {0}
-IsSilent old new WriteFault = Unit {0}
-
--- one write, or none where nothing was to be written; want of memory may come before the write or in it
-abbrev pub Writes : ℕ → ℕ → Status → Type 0
-Writes before after Done = after ≡ next_count before
-Writes before after (BadProject r) = after ≡ next_count before
-Writes before after WriteFault = after ≡ next_count before
-Writes before after NoMemory = (after ≡ before) ⊎ (after ≡ next_count before)
-Writes before after Usage = after ≡ before
-Writes before after ReadFault = after ≡ before
-Writes before after (TooLarge limit) = after ≡ before
-
--- one fetch, and none where the words have not the form
-abbrev pub fetches_after : Option (List ℕ) → ℕ → ℕ
-fetches_after None count = count
-fetches_after (Some name) count = next_count count
-
--- 4. Of which calls a clause speaks: what the shelf holds is told, and the verdict is that of the file
+-- 3. Of which calls a clause speaks: what the shelf holds is told, and the verdict is that of the file
 
 abbrev pub OfFile : Option (List ℕ) → Verdict → Type 0
 OfFile None v = Unit {0}
@@ -132,6 +98,47 @@ abbrev pub Promised : Option Files → List ℕ → (Ending → Type 0) → Type
 Promised held name fact =
     IfSome held (λ files. (v : Verdict) → OfFile (get files name) v → fact (ending_of (get files name) v))
 
--- the words name a file
-abbrev pub Asked : List (List ℕ) → (List ℕ → Type 0) → Type 0
-Asked words fact = IfSome (name_of words) fact
+-- and there is a verdict
+abbrev pub Found : Option Files → List ℕ → (Ending → Type 0) → Type 0
+Found held name fact =
+    IfSome held (λ files. (v : Verdict) × OfFile (get files name) v × fact (ending_of (get files name) v))
+
+-- where the file was judged
+abbrev pub IsFound : Option Files → List ℕ → Status → Type 0
+IsFound held name Done = Found held name (Tells Done)
+IsFound held name (BadProject r) = Found held name (Tells (BadProject r))
+IsFound held name status = Unit {0}
+
+-- 4. What is owed
+
+-- one text at most is written, by one write, whatever is told of the files
+abbrev pub WroteOne : SinkNow → SinkNow → Course → Type 0
+WroteOne k l course = (text : List ℕ) × Wrote k l ⊥ (text ∷ []) course
+
+-- want of memory leaves nothing written
+abbrev pub WantWroteNothing : SinkNow → SinkNow → Status → Type 0
+WantWroteNothing k l NoMemory = Gained k.written l.written []
+WantWroteNothing k l status = Unit {0}
+
+-- What a call owes whose words name a file, by what was seen of the shelf and the sink before it, s and k, and after it, t and l:
+-- a fault only where its count rose, and no fault hidden; every other status but want of memory exactly where the file's ending
+-- is so; where no count rose the answer tells the ending, or memory ran out; what was written, and by which writes; and the file
+-- was fetched once, and the shelf holds what it held.
+pub record Owes (name : List ℕ) (s t : ShelfNow) (k l : SinkNow) (status : Status) : Type 0 where
+  pub fault : FaultCause (FetchFailed s t name) (WriteFailed k l) (course status)
+  pub honest : HidesNothing s t k l (course status)
+  pub pure : HoldsNoWant status
+  pub exact : Promised s.held name (λ ending. AnswerCause (FetchFailed s t name) (Wanted s t) ending status)
+  pub found : IsFound s.held name status
+  pub complete : Promised s.held name (λ ending. ¬ FetchFailed s t name → ¬ WriteFailed k l → Tells status ending ⊎ (status ≡ NoMemory))
+  pub wrote : Promised s.held name (λ ending. Wrote k l ⊥ (texts_of ending) (course status))
+  pub one : WroteOne k l (course status)
+  pub silent : IsSilent k l (course status)
+  pub want : WantWroteNothing k l status
+  pub held : t.held ≡ s.held
+  pub fetches : t.calls ≡ next_count s.calls
+
+-- words that name no file call nothing
+abbrev pub Reports : Option (List ℕ) → (s t : ShelfNow) → (k l : SinkNow) → Status → Type 0
+Reports None s t k l status = IsIdle s t k l
+Reports (Some name) s t k l status = Owes name s t k l status

@@ -4,7 +4,6 @@
 mod advice;
 mod counting;
 mod counts;
-mod fetching;
 mod judging;
 mod naming;
 mod pieces;
@@ -15,23 +14,12 @@ mod text;
 mod top;
 mod unknown;
 
-ghost use Rattle.std.specs.Prelude.{◌≡◌, IfOk};
-
+use call_outcomes::{edges_of, tell};
 use status::{Status, exit_number, told};
-use std::alloc::AllocError;
 use std::env;
-use std::io::Eprint;
 use std::process::ExitCode;
-use sv_channels::{FileShelf, StdSink, WordsError, words_of};
+use sv_channels::{WordsError, words_of};
 use top::report;
-
-// The real files and the standard output.
-fn edges_of(rt: &HostRuntime) -> Result<(FileShelf<HostRuntime>, StdSink<HostRuntime>), AllocError>
-    ensures shelf { IfOk result (λ edges. edges.0 ≡ record { fetches = 0; puts = 0; calls = 0; wants = 0 }) }
-    ensures sink { IfOk result (λ edges. edges.1 ≡ record { faults = 0; calls = 0 }) }
-{
-    Ok((FileShelf::new(rt.clone()?), StdSink::new(rt.clone()?)))
-}
 
 // Reports with real files and the standard output.
 fn run(rt: &HostRuntime) -> Status {
@@ -46,19 +34,12 @@ fn run(rt: &HostRuntime) -> Status {
     }
 }
 
-// Tells the status on the standard error, unless all went well. It takes no memory, so that want of memory is told too.
-fn tell(rt: &impl Eprint, status: &Status) {
-    if matches!(status, Status::Done) {
-        return;
-    }
-    let (name, rule) = told(status);
-    let _ = rt.eprint(name);
-    let _ = rt.eprintln(rule);
-}
-
 fn main(rt: HostRuntime) -> ExitCode {
     let status = run(&rt);
-    tell(&rt, &status);
+    if !matches!(status, Status::Done) {
+        let (name, rule) = told(&status);
+        tell(&rt, name, rule);
+    }
     ExitCode::from(exit_number(&status))
 }
 

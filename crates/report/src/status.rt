@@ -1,10 +1,12 @@
 //! How a call ends.
 
 ghost use Rattle.std.specs.Prelude.{◌≡◌, ◌++◌};
+ghost use Rattle.report.specs.Stages.{unfetched};
 ghost use Rattle.report.specs.Told.{text_of_status, exit_of_status};
 
 use crate::advice::rule_of;
 use project_file::Refusal;
+use sv_channels::FetchError;
 
 /// How a call of `report` ends.
 #[derive(Debug, Drop)]
@@ -23,6 +25,18 @@ pub enum Status {
     TooLarge { limit: u64 },
     /// Memory ran out.
     NoMemory,
+}
+
+impl From<FetchError> for Status {
+    ghost from_gives = { λ error status. status ≡ unfetched error };
+
+    fn from(error: FetchError) -> Status {
+        match error {
+            FetchError::Failed => Status::ReadFault,
+            FetchError::TooLarge { limit } => Status::TooLarge { limit },
+            FetchError::NoMemory => Status::NoMemory,
+        }
+    }
 }
 
 /// What tells a status: its name, and the rule that a project breaks.

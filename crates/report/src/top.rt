@@ -1,27 +1,31 @@
 //! The top call.
 
-ghost use Rattle.std.specs.Prelude.{◌≡◌, ◌≢◌, ◌⊎◌, ◌↔◌, map, string_bytes, None};
-ghost use Rattle.sv_channels.specs.Counts.{next_count, Rose};
+ghost use Rattle.std.specs.Prelude.{◌≡◌, ◌≢◌, ◌↔◌, ◌∷◌, [], map, string_bytes, None};
+ghost use Rattle.call_outcomes.specs.Seen.{shelf_now, sink_now};
+ghost use Rattle.call_outcomes.specs.Stages.{Writes};
 ghost use Rattle.report.specs.Naming.{name_of};
-ghost use Rattle.report.specs.Promise.{AnswerCause, FaultCause, HidesNothing, Tells, Wrote, IsSilent, Writes, Promised, Asked, text_of, fetches_after};
-ghost use Rattle.report.specs.Stages.{ToldOf, WroteSteadily};
+ghost use Rattle.report.specs.Promise.{course, Owes, Reports, WantWroteNothing};
+ghost use Rattle.report.specs.Stages.{ToldOf};
 
-use crate::fetching::fetch;
 use crate::judging::{Judged, judge};
 use crate::naming::name_of;
 use crate::status::Status;
+use call_outcomes::{fetch, write_text};
 use std::alloc::Global;
 use sv_channels::{Shelf, Sink, SinkError};
 
+const PROJECT_LIMIT: u64 = 33_554_432;
+
 // Writes what is said of a file.
 fn tell<K: Sink>(alloc: Global, judged: Judged, out: &mut K) -> Status
-    ensures cause { ToldOf judged.refusal (Rose (K.faults out.old) (K.faults out.new)) result }
-    ensures bytes { Wrote (K.written out.old) (K.written out.new) judged.text.items result }
-    ensures steady { WroteSteadily (K.faults out.old) (K.faults out.new) result }
-    ensures writes { Writes (K.calls out.old) (K.calls out.new) result }
+    ensures told { ToldOf judged.refusal result }
+    ensures writes { Writes (sink_now K.written K.faults K.calls out.old)
+        (sink_now K.written K.faults K.calls out.new) ⊥ (judged.text.items ∷ []) (course result) }
+    ensures want { WantWroteNothing (sink_now K.written K.faults K.calls out.old)
+        (sink_now K.written K.faults K.calls out.new) result }
 {
     let Judged { text, refusal } = judged;
-    match out.write(alloc, &text) {
+    match write_text(alloc, &text, out) {
         Ok(()) => match refusal {
             None => Status::Done,
             Some(refusal) => Status::BadProject(refusal),
@@ -33,20 +37,15 @@ fn tell<K: Sink>(alloc: Global, judged: Judged, out: &mut K) -> Status
 
 // Fetches a project file, judges it, and writes what is said of it.
 fn run<H: Shelf, K: Sink>(alloc: Global, name: &str, shelf: &mut H, out: &mut K) -> Status
-    ensures fault { FaultCause (Rose (H.fetch_faults shelf.old name.now) (H.fetch_faults shelf.new name.now)) (Rose (K.faults out.old) (K.faults out.new)) result }
-    ensures exact { Promised (H.held shelf.old) name.now (λ ending.
-        AnswerCause (Rose (H.fetch_faults shelf.old name.now) (H.fetch_faults shelf.new name.now)) (Rose (H.wants shelf.old) (H.wants shelf.new)) ending result) }
-    ensures bytes { Promised (H.held shelf.old) name.now (λ ending. Wrote (K.written out.old) (K.written out.new) (text_of ending) result) }
-    ensures silent { IsSilent (K.written out.old) (K.written out.new) result }
-    ensures held { H.held shelf.new ≡ H.held shelf.old }
+    ensures owes { Owes name.now
+        (shelf_now H.held H.fetch_faults H.put_faults H.calls H.wants shelf.old)
+        (shelf_now H.held H.fetch_faults H.put_faults H.calls H.wants shelf.new)
+        (sink_now K.written K.faults K.calls out.old) (sink_now K.written K.faults K.calls out.new) result }
     ensures no_usage { result ≢ Status.Usage }
-    ensures honest { HidesNothing (H.fetch_faults shelf.old) (H.fetch_faults shelf.new) (K.faults out.old) (K.faults out.new) result }
-    ensures fetches { H.calls shelf.new ≡ next_count (H.calls shelf.old) }
-    ensures writes { Writes (K.calls out.old) (K.calls out.new) result }
 {
-    let bytes = match fetch(alloc, shelf, name) {
+    let bytes = match fetch(alloc, shelf, name, PROJECT_LIMIT) {
         Ok(bytes) => bytes,
-        Err(status) => return status,
+        Err(error) => return Status::from(error),
     };
     match judge(alloc, &bytes) {
         Ok(judged) => tell(alloc, judged, out),
@@ -69,30 +68,11 @@ pub fn report<H: Shelf, K: Sink>(
     // Usage exactly where the words are not one name.
     ensures usage { (result ≡ Status.Usage) ↔ (name_of (map string_bytes words.now) ≡ None) }
 
-    // A fault only where its count rose.
-    ensures cause { Asked (map string_bytes words.now) (λ name. FaultCause (Rose (H.fetch_faults shelf.old name) (H.fetch_faults shelf.new name)) (Rose (K.faults out.old) (K.faults out.new)) result) }
-
-    // Every other status but want of memory exactly where the file's ending is so; a write fault and want of memory no
-    // earlier in the order of work than they may come.
-    ensures exact { Asked (map string_bytes words.now) (λ name. Promised (H.held shelf.old) name (λ ending.
-        AnswerCause (Rose (H.fetch_faults shelf.old name) (H.fetch_faults shelf.new name)) (Rose (H.wants shelf.old) (H.wants shelf.new)) ending result)) }
-
-    // Where no count rose, the answer tells the ending, or memory ran out.
-    ensures complete { Asked (map string_bytes words.now) (λ name. Promised (H.held shelf.old) name (λ ending.
-        ¬ Rose (H.fetch_faults shelf.old name) (H.fetch_faults shelf.new name) → ¬ Rose (K.faults out.old) (K.faults out.new)
-        → Tells result ending ⊎ (result ≡ Status.NoMemory))) }
-
-    // No failure is told as another status.
-    ensures honest { HidesNothing (H.fetch_faults shelf.old) (H.fetch_faults shelf.new) (K.faults out.old) (K.faults out.new) result }
-
-    // What was written, and by how many writes.
-    ensures bytes { Asked (map string_bytes words.now) (λ name. Promised (H.held shelf.old) name (λ ending. Wrote (K.written out.old) (K.written out.new) (text_of ending) result)) }
-    ensures writes { Writes (K.calls out.old) (K.calls out.new) result }
-    ensures silent { IsSilent (K.written out.old) (K.written out.new) result }
-
-    // The shelf holds what it held, and the file was fetched once.
-    ensures held { H.held shelf.new ≡ H.held shelf.old }
-    ensures fetches { H.calls shelf.new ≡ fetches_after (name_of (map string_bytes words.now)) (H.calls shelf.old) }
+    // What is owed by the words, between what is seen before and after.
+    ensures owes { Reports (name_of (map string_bytes words.now))
+        (shelf_now H.held H.fetch_faults H.put_faults H.calls H.wants shelf.old)
+        (shelf_now H.held H.fetch_faults H.put_faults H.calls H.wants shelf.new)
+        (sink_now K.written K.faults K.calls out.old) (sink_now K.written K.faults K.calls out.new) result }
 {
     match name_of(words) {
         None => Status::Usage,

@@ -14,6 +14,3 @@ mod values;
 
 pub use stores::{RunStores, stores_of};
 pub use told::{ToldDevices, ToldStores};
-
-#[cfg(test)]
-mod tests;

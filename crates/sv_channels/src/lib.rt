@@ -14,8 +14,6 @@ mod numbers;
 mod output;
 mod shelf;
 mod sink;
-#[cfg(test)]
-mod tests;
 mod transfer;
 mod words;
 
@@ -28,4 +26,5 @@ pub use numbers::{Numbers, Pairs};
 pub use output::StdSink;
 pub use shelf::Shelf;
 pub use sink::Sink;
+pub use transfer::{ReadStop, read_up_to, write_whole};
 pub use words::{WordsError, words_of};

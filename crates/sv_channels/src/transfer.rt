@@ -11,10 +11,12 @@ use std::io::{Read, Write};
 // How many bytes are read at a time.
 const BUFFER_LENGTH: usize = 16384;
 
-// Why a file was not read.
+/// Why a reader was not read to its end.
 #[derive(Drop)]
-pub(crate) enum ReadStop {
+pub enum ReadStop {
+    /// A read failed.
     Failed,
+    /// Memory ran out.
     NoMemory,
 }
 
@@ -26,12 +28,9 @@ impl From<AllocError> for ReadStop {
     }
 }
 
-// The first `most` bytes of a reader, or all of them where they are fewer.
-pub(crate) fn read_up_to<F: Read>(
-    alloc: Global,
-    file: &mut F,
-    most: u64,
-) -> Result<Vec<u8>, ReadStop>
+/// The first `most` bytes of a reader, or all of them where they are fewer; no byte behind them is taken. `Failed` where a
+/// read fails, `NoMemory` only for want of memory.
+pub fn read_up_to<F: Read>(alloc: Global, file: &mut F, most: u64) -> Result<Vec<u8>, ReadStop>
     ensures bound { IfOk result (λ bytes. length bytes.items ≤ most) }
     ensures bytes { IfOk result (λ bytes.
         IfSome (F.remaining file.old) (λ all. bytes.items ≡ take most all)) }
@@ -55,8 +54,8 @@ pub(crate) fn read_up_to<F: Read>(
     Err(ReadStop::Failed)
 }
 
-// Writes all the bytes, and says whether that went well. A write that takes none of them is a fault.
-pub(crate) fn write_whole<W: Write>(writer: &mut W, bytes: &[u8]) -> bool
+/// Writes all the bytes, and says whether that went well. A write that takes none of them is a fault.
+pub fn write_whole<W: Write>(writer: &mut W, bytes: &[u8]) -> bool
     ensures bytes { OnTrue result (Appends (W.contents writer.old) (W.contents writer.new) bytes.now) }
 
     // A first part of them is written before a fault.

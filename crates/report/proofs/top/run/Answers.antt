@@ -1,26 +1,22 @@
-use Rattle.std.proofs.Common.{subst}
-use Rattle.sv_channels.specs.Counts.{Rose}
-use Rattle.report.specs.Promise.{Ending, AnswerCause, Wrote, text_of}
+use Rattle.std.proofs.Common.{Err, sym, subst}
+use Rattle.call_outcomes.specs.Seen.{shelf_now, sink_now}
+use Rattle.report.specs.Promise.{Owes}
 use Rattle.report.specs.Stages.{IsJudged}
-use Rattle.report.proofs.OneVerdict.{at_verdict, told_cause}
+use Rattle.report.proofs.Owed.{owes_unfetched, owes_wanting, owes_told}
 use Rattle.report.proofs.top.run.Goals as goal
 
-pub returns-in-Ok-judge-clause-exact : goal.returns-in-Ok-judge-clause-exact
-returns-in-Ok-judge-clause-exact g c =
-    let held = g.H.Shelf.held c.args.shelf.now in
-    let name = c.args.name.now in
-    let judged = subst (λ bs. IsJudged bs c.in-Ok-judge.judged) c.deref.ensures.value c.in-Ok-judge.ensures in
-    let failed = Rose (g.H.Shelf.fetch_faults c.args.shelf.now name) (g.H.Shelf.fetch_faults c.fetch.new.shelf name) in
-    let wanted = Rose (g.H.Shelf.wants c.args.shelf.now) (g.H.Shelf.wants c.fetch.new.shelf) in
-    at_verdict (λ (e : Ending). AnswerCause failed wanted e c.tell.result) held name c.in-Ok.bytes.items judged.verdict c.in-Ok.ensures.answer.0 c.in-Ok.ensures.answer.1 judged.is
-    (told_cause failed wanted (Rose (g.K.Sink.faults c.args.out.now) (g.K.Sink.faults c.tell.new.out)) judged.verdict c.in-Ok-judge.judged.refusal c.tell.result judged.refusal c.tell.ensures.cause)
+pub returns-in-Err-clause-owes : goal.returns-in-Err-clause-owes
+returns-in-Err-clause-owes g c =
+    let s = shelf_now g.H.Shelf.held g.H.Shelf.fetch_faults g.H.Shelf.put_faults g.H.Shelf.calls g.H.Shelf.wants c.args.shelf.now in
+    let t = shelf_now g.H.Shelf.held g.H.Shelf.fetch_faults g.H.Shelf.put_faults g.H.Shelf.calls g.H.Shelf.wants c.fetch.new.shelf in
+    let k = sink_now g.K.Sink.written g.K.Sink.faults g.K.Sink.calls c.args.out.now in
+    subst (λ status. Owes c.args.name.now s t k k status) (sym c.from.ensures) (owes_unfetched c.args.name.now s t k c.in-Err.error c.in-Err.ensures)
 
-pub returns-in-Ok-judge-clause-bytes : goal.returns-in-Ok-judge-clause-bytes
-returns-in-Ok-judge-clause-bytes g c =
-    let held = g.H.Shelf.held c.args.shelf.now in
-    let name = c.args.name.now in
+pub returns-in-Ok-judge-clause-owes : goal.returns-in-Ok-judge-clause-owes
+returns-in-Ok-judge-clause-owes g c =
+    let s = shelf_now g.H.Shelf.held g.H.Shelf.fetch_faults g.H.Shelf.put_faults g.H.Shelf.calls g.H.Shelf.wants c.args.shelf.now in
+    let t = shelf_now g.H.Shelf.held g.H.Shelf.fetch_faults g.H.Shelf.put_faults g.H.Shelf.calls g.H.Shelf.wants c.fetch.new.shelf in
+    let k = sink_now g.K.Sink.written g.K.Sink.faults g.K.Sink.calls c.args.out.now in
+    let l = sink_now g.K.Sink.written g.K.Sink.faults g.K.Sink.calls c.tell.new.out in
     let judged = subst (λ bs. IsJudged bs c.in-Ok-judge.judged) c.deref.ensures.value c.in-Ok-judge.ensures in
-    let written = g.K.Sink.written c.args.out.now in
-    let now = g.K.Sink.written c.tell.new.out in
-    at_verdict (λ (e : Ending). Wrote written now (text_of e) c.tell.result) held name c.in-Ok.bytes.items judged.verdict c.in-Ok.ensures.answer.0 c.in-Ok.ensures.answer.1 judged.is
-    (subst (λ text. Wrote written now text c.tell.result) judged.text c.tell.ensures.bytes)
+    owes_told c.args.name.now s t k l c.in-Ok.bytes c.in-Ok-judge.judged c.tell.result c.in-Ok.ensures judged c.tell.ensures.told c.tell.ensures.writes c.tell.ensures.want

@@ -1,12 +1,11 @@
-use crate::transfer::{read_up_to, write_whole};
-use crate::{
-    FetchError, FileShelf, MemoryShelf, MemorySink, NamedBytes, Numbers, Pairs, PutError, Shelf,
-    Sink, SinkError, StdSink, SteadySink, WordsError, words_of,
-};
 use std::alloc::{AllocError, Global};
 use std::io::{ErrorKind, Read, Write};
 use std::test::Fail;
 use std::{env, io};
+use sv_channels::{
+    FetchError, FileShelf, MemoryShelf, MemorySink, NamedBytes, Numbers, Pairs, PutError, Shelf,
+    Sink, SinkError, StdSink, SteadySink, WordsError, read_up_to, words_of, write_whole,
+};
 
 // A shelf that holds "a" twice, first with three bytes, and "b" with none.
 fn small_shelf(alloc: Global, fails: &[u64]) -> Result<MemoryShelf, AllocError> {

@@ -1,0 +1,5 @@
+//! Tests of shelves and sinks: those in memory, whose answers are known to the byte, and those over files and the output.
+#![tactic(auto)]
+
+#[cfg(test)]
+mod sv_channels_tests;
