@@ -21,50 +21,51 @@ use Rattle.saved_rules.specs.Legal.{told}
 use Rattle.saved_rules.specs.Refusals.{IsAccepted as IsSavedRun}
 use Rattle.saved_rules.specs.RunShapes.{Told}
 use Rattle.legal_words.specs.Words.{words_after}
-use Rattle.legal_runs.specs.Reached.{IsDigest, IsGood, IsReached}
+use Rattle.legal_worlds.specs.Runs.{IsLegalRun}
+use Rattle.legal_runs.specs.Good.{IsDigest, IsGood}
 use Rattle.legal_runs.specs.Worlds.{world_told}
 use Rattle.player.specs.Command.{Command, Form, ResumeForm, check, play, resume}
 use Rattle.player.specs.Limits.{project_limit, saved_limit, script_limit}
 use Rattle.player.specs.Promise.{accepted, Bases, continued, Continues, Ending, ran, unsaved, Outcome, Resumable, SavesAgain, TellsAgain, all_of, at_ending, limit_save_line, fetched, outcome_of, output_from, output_of, put_or_told, resume_outcome, text_from, text_of_run, words_of}
 use Rattle.player.specs.Stages.{IsLimitEnd}
-use Rattle.player.specs.declared.status.Limit.{Limit as LimitMet}
+use Rattle.run_save.specs.declared.status.Limit.{Limit as LimitMet}
 use Rattle.player.specs.Saving.{RunLaws, SavesInRange}
-use Rattle.player.specs.declared.status.Status.{Status}
-use Rattle.player.specs.declared.status.Status.TheVariants.{Done, Usage, ReadFault, WriteFault, BadProject, BadSave, BadScript, Limit, TooLarge, NoMemory}
-use Rattle.player.specs.declared.status.Which.TheVariants as which
+use Rattle.run_save.specs.declared.status.Status.{Status}
+use Rattle.run_save.specs.declared.status.Status.TheVariants.{Done, Usage, ReadFault, WriteFault, BadProject, BadSave, BadScript, Limit, TooLarge, NoMemory}
+use Rattle.run_save.specs.declared.status.Which.TheVariants as which
 use Rattle.player.proofs.Calls.{fetched_ok, seeded_words}
 use Rattle.player.proofs.Resumes.{one_basis}
 
 module _ (laws : RunLaws) (b : Basis) (good : IsGood b) (project : List ℕ) (digest : IsDigest (sha256 project)) (seed : ℕ) where
-  -- the text of a world that a run can reach
-  text_again : (w : World Task) → IsReached b.program seed w → IsRun IsTask (snapshot (sha256 project) seed w) → TellsAgain b project seed w (text_of_run project seed w)
-  text_again w reached ranges = record {
+  -- the text of a legal world
+  text_again : (w : World Task) → IsLegalRun b.program seed w → IsRun IsTask (snapshot (sha256 project) seed w) → TellsAgain b project seed w (text_of_run project seed w)
+  text_again w legal ranges = record {
     told_run = told (snapshot (sha256 project) seed w);
-    accepted_again = laws.text b seed (sha256 project) w good digest reached ranges;
+    accepted_again = laws.text b seed (sha256 project) w good digest legal ranges;
     same_seed = refl;
-    same_world = laws.world b seed (sha256 project) w good reached;
+    same_world = laws.world b seed (sha256 project) w good legal;
   }
 
   -- the text that is put, if one is
-  put_again : (c : Bool) (w : World Task) (writes : List (List ℕ)) → IsReached b.program seed w → IsRun IsTask (snapshot (sha256 project) seed w)
+  put_again : (c : Bool) (w : World Task) (writes : List (List ℕ)) → IsLegalRun b.program seed w → IsRun IsTask (snapshot (sha256 project) seed w)
       → SavesAgain b project seed (cond c (record { texts = writes ++ limit_save_line (length (text_of_run project seed w)) ∷ []; ending = unsaved (length (text_of_run project seed w)); saved = None }) (record { texts = writes; ending = ran (Whole w); saved = Some (text_of_run project seed w) }))
-  put_again true w writes reached ranges last text e f = absurd (cc f)
-  put_again false w writes reached ranges last text e f =
+  put_again true w writes legal ranges last text e f = absurd (cc f)
+  put_again false w writes legal ranges last text e f =
       let same_world : w ≡ last = cc e in
       let same_text : text_of_run project seed w ≡ text = cc f in
-      subst (λ x. TellsAgain b project seed last x) same_text (subst (λ x. TellsAgain b project seed x (text_of_run project seed w)) same_world (text_again w reached ranges))
+      subst (λ x. TellsAgain b project seed last x) same_text (subst (λ x. TellsAgain b project seed x (text_of_run project seed w)) same_world (text_again w legal ranges))
 
-  ending_again : (name : List ℕ) (writes : List (List ℕ)) (ending : RunEnding) → ((last : World Task) → ending ≡ Whole last → IsReached b.program seed last) → SavesInRange (sha256 project) seed (Some name) ending Done
+  ending_again : (name : List ℕ) (writes : List (List ℕ)) (ending : RunEnding) → ((last : World Task) → ending ≡ Whole last → IsLegalRun b.program seed last) → SavesInRange (sha256 project) seed (Some name) ending Done
       → SavesAgain b project seed (at_ending (text_of_run project seed) writes ending)
-  ending_again name writes (Whole w) reached ranges = put_again (ltb longest (length (text_of_run project seed w))) w writes (reached w refl) ranges
-  ending_again name writes (BadLine r) reached ranges = λ last text e f. absurd (cc f)
-  ending_again name writes (Limited s) reached ranges = λ last text e f. absurd (cc f)
+  ending_again name writes (Whole w) legal ranges = put_again (ltb longest (length (text_of_run project seed w))) w writes (legal w refl) ranges
+  ending_again name writes (BadLine r) legal ranges = λ last text e f. absurd (cc f)
+  ending_again name writes (Limited s) legal ranges = λ last text e f. absurd (cc f)
 
   -- what is saved at the end of the lines of a script
-  all_again : (save : Option (List ℕ)) (o : Output) → ((last : World Task) → o.ending ≡ Whole last → IsReached b.program seed last) → SavesInRange (sha256 project) seed save o.ending Done
+  all_again : (save : Option (List ℕ)) (o : Output) → ((last : World Task) → o.ending ≡ Whole last → IsLegalRun b.program seed last) → SavesInRange (sha256 project) seed save o.ending Done
       → SavesAgain b project seed (all_of save (text_of_run project seed) o)
-  all_again None o reached ranges = λ last text e f. absurd (cc f)
-  all_again (Some name) o reached ranges = ending_again name o.writes o.ending reached ranges
+  all_again None o legal ranges = λ last text e f. absurd (cc f)
+  all_again (Some name) o legal ranges = ending_again name o.writes o.ending legal ranges
 
 same_bytes : (o : Option (List ℕ)) (a b : List ℕ) → o ≡ Some a → o ≡ Some b → a ≡ b
 same_bytes o a b e f = cc (sym e ∙ f)
@@ -86,8 +87,8 @@ module _ (laws : RunLaws) (form : Form) (file script digest : List ℕ) (b : Bas
       ∙ fetched_ok which.Script script_limit (get files form.script) script next scripted short in
       subst (SavesAgain b file form.seed) (sym same)
       (all_again laws b good_basis file (subst IsDigest digest_is is_digest) form.seed form.save (output_of b.program (words_of form.seed) script)
-      (λ last e. laws.last b form.seed 1 (first_world b.program (words_of form.seed)) last (lines_of script) good_basis
-      (subst (λ x. IsReached b.program form.seed (first_world b.program x)) (first_words form.seed) (laws.first b form.seed good_basis)) e)
+      (λ last e. laws.last b.program form.seed 1 (first_world b.program (words_of form.seed)) last (lines_of script) good_basis.program
+      (laws.first b.program (words_of form.seed) form.seed good_basis.program (sym (first_words form.seed))) e)
       (subst (λ d. SavesInRange d form.seed form.save (output_of b.program (words_of form.seed) script).ending Done) digest_is ranges))
 
   pub play_resumable : (held : Option Files) (status : Status) → IfSome held (λ files. get files form.project ≡ Some file) → IfSome held (λ files. get files form.script ≡ Some script)
@@ -124,7 +125,7 @@ module _ (laws : RunLaws) (one : OneAnswer) (form : ResumeForm) (file saved scri
       ∙ fetched_ok which.Script script_limit (get files form.script) script next scripted short in
       subst (SavesAgain b file t.run.seed) (sym same)
       (all_again laws b its_basis file (subst IsDigest digest_is is_digest) t.run.seed form.save (output_from b t script)
-      (λ last e. laws.last b t.run.seed 1 (world_told b t) last (lines_of script) its_basis (laws.accepted_runs b (sha256 file) saved t is_saved) e)
+      (λ last e. laws.last b.program t.run.seed 1 (world_told b t) last (lines_of script) its_basis.program (laws.accepted_runs b (sha256 file) saved t is_saved) e)
       (subst (λ d. SavesInRange d t.run.seed form.save (output_from b t script).ending Done) digest_is ranges))
 
   pub resume_resumable : (held : Option Files) (status : Status) → IfSome held (λ files. get files form.project ≡ Some file) → IfSome held (λ files. get files form.saved ≡ Some saved) → IfSome held (λ files. get files form.script ≡ Some script)

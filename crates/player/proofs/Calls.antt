@@ -26,12 +26,12 @@ use Rattle.player.specs.Promise.{Loading, refused, accepted, Bases, Loads, Check
 use Rattle.player.specs.Saving.{PutsCalled}
 use Rattle.player.specs.Stages.{Fetched, Loaded, RefusedAs, PlayedTo}
 use Rattle.player.proofs.Outputs.{counted_more}
-use Rattle.player.specs.Told.{text_of_refusal}
+use Rattle.run_save.specs.Statuses.{text_of_refusal}
 use Rattle.player.specs.declared.counts.Counts.{Counts}
-use Rattle.player.specs.declared.status.Which.{Which}
-use Rattle.player.specs.declared.status.Which.TheVariants as which
-use Rattle.player.specs.declared.status.Status.{Status}
-use Rattle.player.specs.declared.status.Status.TheVariants.{Done, Usage, ReadFault, WriteFault, BadProject, BadSave, BadScript, Limit, TooLarge, NoMemory}
+use Rattle.run_save.specs.declared.status.Which.{Which}
+use Rattle.run_save.specs.declared.status.Which.TheVariants as which
+use Rattle.run_save.specs.declared.status.Status.{Status}
+use Rattle.run_save.specs.declared.status.Status.TheVariants.{Done, Usage, ReadFault, WriteFault, BadProject, BadSave, BadScript, Limit, TooLarge, NoMemory}
 
 -- a file that is held and within its limit
 pub fetched_ok : (file : Which) (limit : ℕ) (o : Option (List ℕ)) (bytes : List ℕ) (next : List ℕ → Outcome) → o ≡ Some bytes → length bytes ≤ limit → fetched file limit o next ≡ next bytes
@@ -319,7 +319,7 @@ script_calls files some puts A items held name limit failed wanted (Limit l) h =
 -- The lines were played, or the counts were told.
 pub played_cause : (ending : Ending) (failed sf wanted write_failed : Type 0) (status : Status) → IsReady ending → PlayedTo ending write_failed status → AnswerCause failed sf wanted ending status
 played_cause ending failed sf wanted write_failed Done l h = h
-played_cause ending failed sf wanted write_failed (BadScript r) l h = h
+played_cause ending failed sf wanted write_failed (BadScript r) l h = h.0
 played_cause ending failed sf wanted write_failed (Limit m) l h = h
 played_cause ending failed sf wanted write_failed WriteFault l h = l
 played_cause ending failed sf wanted write_failed NoMemory l h = inr (is_fetched ending (is_loaded ending l))

@@ -5,8 +5,8 @@ use Rattle.sv_channels.specs.Files.{Files}
 use Rattle.player.specs.Promise.{Ending, Outcome, PutFailed, Shelved, IsUnshelved, IsSilent, FaultCause, HidesNothing, Writes}
 use Rattle.player.specs.Saving.{PutSteadily}
 use Rattle.player.specs.Stages.{PlayedSteadily, PlayedTo}
-use Rattle.player.specs.declared.status.Status.{Status}
-use Rattle.player.specs.declared.status.Status.TheVariants.{Done, Usage, ReadFault, WriteFault, BadProject, BadSave, BadScript, Limit, TooLarge, NoMemory}
+use Rattle.run_save.specs.declared.status.Status.{Status}
+use Rattle.run_save.specs.declared.status.Status.TheVariants.{Done, Usage, ReadFault, WriteFault, BadProject, BadSave, BadScript, Limit, TooLarge, NoMemory}
 
 -- Counts that stood still before
 
@@ -21,7 +21,7 @@ put_failed_before before then after (Some name) e h = subst (λ n. Rose n (after
 
 pub fault_cause : (ending : Ending) (fetch_failed write_failed put_failed mine : Type 0) (status : Status) → (put_failed → mine) → PlayedTo ending (write_failed ⊎ put_failed) status → FaultCause fetch_failed (write_failed ⊎ mine) status
 fault_cause ending f w p q Done k h = tt
-fault_cause ending f w p q (BadScript r) k h = tt
+fault_cause ending f w p q (BadScript r) k h = h.1
 fault_cause ending f w p q (Limit l) k h = tt
 fault_cause ending f w p q WriteFault k (inl h) = inl h
 fault_cause ending f w p q WriteFault k (inr h) = inr (k h)

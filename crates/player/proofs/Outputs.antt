@@ -15,9 +15,9 @@ use Rattle.script_machine.specs.declared.lines.LineRefusal.TheVariants as line_r
 use Rattle.script_machine.specs.Output.{Output, Ending, BadLine, in_front}
 use Rattle.player.specs.Promise.{Wrote, Writes, counted, ran, ending_at}
 use Rattle.player.specs.Stages.{HasMet, IsLineEnd, LineEnds, LineWrote, LineWrites, PlayedTo}
-use Rattle.player.specs.declared.status.Limit.{Limit as LimitMet}
-use Rattle.player.specs.declared.status.Status.{Status}
-use Rattle.player.specs.declared.status.Status.TheVariants.{Done, Usage, ReadFault, WriteFault, BadProject, BadSave, BadScript, Limit, TooLarge, NoMemory}
+use Rattle.run_save.specs.declared.status.Limit.{Limit as LimitMet}
+use Rattle.run_save.specs.declared.status.Status.{Status}
+use Rattle.run_save.specs.declared.status.Status.TheVariants.{Done, Usage, ReadFault, WriteFault, BadProject, BadSave, BadScript, Limit, TooLarge, NoMemory}
 
 -- these texts were written, and then the left ones make the whole
 pub record IsPartOf (all left : Output) (old new : Option (List ℕ)) (before after : ℕ) : Type 0 where
@@ -170,7 +170,7 @@ ended_writes all left old mid before then part none =
 -- A refused line.
 
 pub refused_cause : (ending : Ending) (failed : Type 0) (r : LineRefusal) (status : Status) → IsLineEnd r status → ((r ≡ line_refusal.NoMemory → ⊥) → ending ≡ BadLine r) → PlayedTo (ran ending) failed status
-refused_cause ending failed r (BadScript s) h k = ap ran (k h.1 ∙ ap BadLine (sym h.0))
+refused_cause ending failed r (BadScript s) h k = (ap ran (k h.1 ∙ ap BadLine (sym h.0)), λ e. h.1 (sym h.0 ∙ e))
 refused_cause ending failed r NoMemory h k = tt
 refused_cause ending failed r Done h k = absurd h
 refused_cause ending failed r Usage h k = absurd h

@@ -24,11 +24,11 @@ use Rattle.player.specs.Command.{ResumeForm}
 use Rattle.player.specs.Limits.{project_limit, saved_limit, script_limit}
 use Rattle.player.specs.Promise.{Loading, refused, accepted, Bases, Continuing, rejected, continued, Continues, OfFile, OfSaved, too_large, not_continued, unloaded, Outcome, ends, all_of, fetched, loaded, told_to, output_from, text_from, text_of_run, resume_outcome, IsFetched, IsLoaded, IsReady, AnswerCause, FaultCause, HidesNothing, IsUnshelved, CallsOf}
 use Rattle.player.specs.Stages.{Fetched, FetchedSteadily, Resumed, SaveRefusedAs}
-use Rattle.player.specs.Told.{text_of_save_refusal}
-use Rattle.player.specs.declared.status.Which.{Which}
-use Rattle.player.specs.declared.status.Which.TheVariants as which
-use Rattle.player.specs.declared.status.Status.{Status}
-use Rattle.player.specs.declared.status.Status.TheVariants.{Done, Usage, ReadFault, WriteFault, BadProject, BadSave, BadScript, Limit, TooLarge, NoMemory}
+use Rattle.run_save.specs.Statuses.{text_of_save_refusal}
+use Rattle.run_save.specs.declared.status.Which.{Which}
+use Rattle.run_save.specs.declared.status.Which.TheVariants as which
+use Rattle.run_save.specs.declared.status.Status.{Status}
+use Rattle.run_save.specs.declared.status.Status.TheVariants.{Done, Usage, ReadFault, WriteFault, BadProject, BadSave, BadScript, Limit, TooLarge, NoMemory}
 use Rattle.player.proofs.Calls.{IsFetchedFile, IsReading, all_ending, fetched_ok, fetched_large, accepted_ok, is_fetched, is_loaded, json_laws, loaded_ending, read_bytes}
 use Rattle.player.proofs.Ends.{none_rose_behind}
 use Rattle.player.proofs.Programs.{one_program_of}

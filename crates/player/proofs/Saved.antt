@@ -16,10 +16,10 @@ use Rattle.saved_text.specs.Saving.{longest}
 use Rattle.player.specs.Promise.{Ending, ran, unsaved, Outcome, PutFailed, Shelved, Wrote, Writes, only_written, all_of, at_ending, counted, limit_save_line, put_or_told, ending_at, is_whole}
 use Rattle.player.specs.Saving.{EndsAs, PutEnds, PutSteadily, ShelfNow, SinkNow}
 use Rattle.player.specs.Stages.{IsLimitEnd, LineWrote, LineWrites, LineSteadily, PlayedSteadily, PlayedTo, Told}
-use Rattle.player.specs.declared.status.Limit.{Limit as LimitMet}
-use Rattle.player.specs.declared.status.Limit.TheVariants as limit
-use Rattle.player.specs.declared.status.Status.{Status}
-use Rattle.player.specs.declared.status.Status.TheVariants.{Done, Usage, ReadFault, WriteFault, BadProject, BadSave, BadScript, Limit, TooLarge, NoMemory}
+use Rattle.run_save.specs.declared.status.Limit.{Limit as LimitMet}
+use Rattle.run_save.specs.declared.status.Limit.TheVariants as limit
+use Rattle.run_save.specs.declared.status.Status.{Status}
+use Rattle.run_save.specs.declared.status.Status.TheVariants.{Done, Usage, ReadFault, WriteFault, BadProject, BadSave, BadScript, Limit, TooLarge, NoMemory}
 use Rattle.player.proofs.Outputs.{counted_more}
 
 none_rose : (count : List ℕ → ℕ) → NoneRose count count
@@ -414,7 +414,7 @@ cut_save save text run s k l status e = subst (λ o. EndsAs save o s s k l statu
 pub ends_early : (save : Option (List ℕ)) (text : World Task → List ℕ) (run : Output) (s : ShelfNow) (k l : SinkNow) (status : Status) → (status ≡ Done → ⊥) → PlayedTo (ran run.ending) (Rose k.faults l.faults) status
     → Wrote k.written l.written run.writes status → k.faults ≤ l.faults → PlayedSteadily k.faults l.faults status → Writes k.calls l.calls ⊥ run.writes status → EndsAs save (all_of save text run) s s k l status
 ends_early save text run s k l (BadScript r) other c h faults steady counts =
-    whole_save save text run s k l (BadScript r) (ap is_whole c) (told_ends save run s k l (BadScript r) other c h faults steady counts (λ e. cc e) (λ e. cc e))
+    whole_save save text run s k l (BadScript r) (ap is_whole c.0) (told_ends save run s k l (BadScript r) other c h faults steady counts (λ e. cc e) (λ e. cc e))
 ends_early save text run s k l (Limit m) other c h faults steady counts =
     whole_save save text run s k l (Limit m) (limit_not_whole run.ending m c) (told_ends save run s k l (Limit m) other c h faults steady counts (λ e. cc e) (λ e. cc e))
 ends_early save text run s k l WriteFault other c h faults steady counts =

@@ -25,7 +25,7 @@ use Rattle.player.specs.Command.{Form, ResumeForm}
 use Rattle.player.specs.Laws.{AreCalls, EndingsAgree, Parts, SaveAlike, TwoAreOne}
 use Rattle.player.specs.Limits.{project_limit, saved_limit, script_limit}
 use Rattle.player.specs.Promise.{accepted, continued, Continues, Ending, ran, unsaved, fetched, Outcome, TellsAgain, all_of, at_ending, limit_save_line, outcome_of, output_from, output_of, put_or_told, resume_outcome, text_of_run, words_of}
-use Rattle.player.specs.declared.status.Which.TheVariants as which
+use Rattle.run_save.specs.declared.status.Which.TheVariants as which
 use Rattle.player.proofs.Calls.{fetched_ok}
 
 -- the text of a saved run does not tell its redraw request

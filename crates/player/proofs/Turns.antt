@@ -16,10 +16,10 @@ use Rattle.script_machine.specs.World.{World}
 use Rattle.input_script.specs.Reader.{Reader, first_reading, next_reading, Refuses}
 use Rattle.player.specs.Promise.{ran, ending_at}
 use Rattle.player.specs.Stages.{line_writes, HasMet, LineEnds}
-use Rattle.player.specs.declared.status.Limit.{Limit as LimitMet}
-use Rattle.player.specs.declared.status.Limit.TheVariants as limit
-use Rattle.player.specs.declared.status.Status.{Status}
-use Rattle.player.specs.declared.status.Status.TheVariants.{Done, Usage, ReadFault, WriteFault, BadProject, BadSave, BadScript, Limit, TooLarge, NoMemory}
+use Rattle.run_save.specs.declared.status.Limit.{Limit as LimitMet}
+use Rattle.run_save.specs.declared.status.Limit.TheVariants as limit
+use Rattle.run_save.specs.declared.status.Status.{Status}
+use Rattle.run_save.specs.declared.status.Status.TheVariants.{Done, Usage, ReadFault, WriteFault, BadProject, BadSave, BadScript, Limit, TooLarge, NoMemory}
 use Rattle.player.proofs.Outputs.{IsLast}
 
 -- what follows a line: the lines behind it, or nothing where it reached a limit

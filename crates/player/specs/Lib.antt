@@ -4,5 +4,4 @@ pub mod Limits
 pub mod Command
 pub mod Promise
 pub mod Stages
-pub mod Told
 pub mod Saving

@@ -15,6 +15,7 @@ use Rattle.sv_channels.specs.Sink.{Gained, GainedPart}
 use Rattle.sha2.specs.Sha256.{sha256}
 use Rattle.script_words.specs.Words.{answers, seeded}
 use Rattle.script_words.specs.declared.stops.Stop.TheVariants as stop
+use Rattle.script_machine.specs.declared.lines.LineRefusal.TheVariants as line_refusal
 use Rattle.script_machine.specs.Words.{Words}
 use Rattle.script_machine.specs.Program.{Program}
 use Rattle.script_machine.specs.First.{first_world}
@@ -38,14 +39,14 @@ use Rattle.saved_text.specs.Saving.{longest}
 use Rattle.saved_text.specs.Tasks.{task}
 use Rattle.player.specs.Limits.{project_limit, saved_limit, script_limit}
 use Rattle.player.specs.Command.{Form, ResumeForm, Command, play, resume, check, command_of}
-use Rattle.player.specs.Told.{text_of_refusal, text_of_save_refusal}
+use Rattle.run_save.specs.Statuses.{text_of_refusal, text_of_save_refusal}
 use Rattle.player.specs.declared.counts.Counts.{Counts}
-use Rattle.player.specs.declared.status.Limit.{Limit as LimitMet}
-use Rattle.player.specs.declared.status.Limit.TheVariants as limit
-use Rattle.player.specs.declared.status.Which.{Which}
-use Rattle.player.specs.declared.status.Which.TheVariants as which
-use Rattle.player.specs.declared.status.Status.{Status}
-use Rattle.player.specs.declared.status.Status.TheVariants.{Done, Usage, ReadFault, WriteFault, BadProject, BadSave, BadScript, Limit, TooLarge, NoMemory}
+use Rattle.run_save.specs.declared.status.Limit.{Limit as LimitMet}
+use Rattle.run_save.specs.declared.status.Limit.TheVariants as limit
+use Rattle.run_save.specs.declared.status.Which.{Which}
+use Rattle.run_save.specs.declared.status.Which.TheVariants as which
+use Rattle.run_save.specs.declared.status.Status.{Status}
+use Rattle.run_save.specs.declared.status.Status.TheVariants.{Done, Usage, ReadFault, WriteFault, BadProject, BadSave, BadScript, Limit, TooLarge, NoMemory}
 
 -- 1. What a project file stands for
 
@@ -297,7 +298,7 @@ FaultCause fetch_failed write_failed Done = Unit {0}
 FaultCause fetch_failed write_failed Usage = Unit {0}
 FaultCause fetch_failed write_failed (BadProject r) = IsSome (text_of_refusal r)
 FaultCause fetch_failed write_failed (BadSave r) = IsSome (text_of_save_refusal r)
-FaultCause fetch_failed write_failed (BadScript r) = Unit {0}
+FaultCause fetch_failed write_failed (BadScript r) = r ≢ line_refusal.NoMemory
 FaultCause fetch_failed write_failed (Limit l) = Unit {0}
 FaultCause fetch_failed write_failed (TooLarge file limit) = Unit {0}
 FaultCause fetch_failed write_failed NoMemory = Unit {0}

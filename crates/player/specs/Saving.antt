@@ -8,12 +8,13 @@ use Rattle.script_machine.specs.Tasks.{Task}
 use Rattle.script_machine.specs.World.{World}
 use Rattle.saved_text.specs.Ranges.{IsRun, IsTask}
 use Rattle.saved_text.specs.Saved.{snapshot}
-use Rattle.legal_runs.specs.Laws.{EachFileIsGood, FirstIsReached, LastIsReached, TextIsAccepted, WorldIsTold}
-use Rattle.accepted_runs.specs.Laws.{AcceptedIsReached}
+use Rattle.legal_worlds.specs.Laws.{FirstIsLegal, LastIsLegal}
+use Rattle.legal_runs.specs.Laws.{EachFileIsGood, TextIsAccepted, WorldIsTold}
+use Rattle.accepted_runs.specs.Laws.{AcceptedIsLegal}
 use Rattle.player.specs.Promise.{Outcome, PutFailed, Shelved, Wrote, Writes, counted, puts_of}
 use Rattle.player.specs.Stages.{PlayedSteadily, PlayedTo}
-use Rattle.player.specs.declared.status.Status.{Status}
-use Rattle.player.specs.declared.status.Status.TheVariants.{Done, WriteFault, NoMemory}
+use Rattle.run_save.specs.declared.status.Status.{Status}
+use Rattle.run_save.specs.declared.status.Status.TheVariants.{Done, WriteFault, NoMemory}
 
 -- after the play of all lines the run is at the last world
 abbrev pub LeftAt : Output → World Task → Status → Type 0
@@ -83,8 +84,8 @@ SavesInRange digest seed save ending status = Unit {0}
 -- the laws of runs that are cited where one is saved
 pub record RunLaws : Type 0 where
   pub good : EachFileIsGood
-  pub first : FirstIsReached
-  pub last : LastIsReached
+  pub first : FirstIsLegal
+  pub last : LastIsLegal
   pub text : TextIsAccepted
   pub world : WorldIsTold
-  pub accepted_runs : AcceptedIsReached
+  pub accepted_runs : AcceptedIsLegal

@@ -22,13 +22,13 @@ use Rattle.saved_rules.specs.Refusals.{IsAccepted, IsRefused}
 use Rattle.saved_rules.specs.RunShapes.{Told as SavedRun}
 use Rattle.saved_rules.specs.declared.refusals.SaveRefusal.{SaveRefusal}
 use Rattle.legal_runs.specs.Worlds.{world_told}
-use Rattle.player.specs.Told.{text_of_refusal, text_of_save_refusal}
+use Rattle.run_save.specs.Statuses.{text_of_refusal, text_of_save_refusal}
 use Rattle.player.specs.Promise.{Loading, refused, accepted, counted, Ending, ran, is_whole, ending_at, limit_save_line}
-use Rattle.player.specs.declared.status.Limit.{Limit as LimitMet}
-use Rattle.player.specs.declared.status.Limit.TheVariants as limit
-use Rattle.player.specs.declared.status.Which.{Which}
-use Rattle.player.specs.declared.status.Status.{Status}
-use Rattle.player.specs.declared.status.Status.TheVariants.{Done, Usage, ReadFault, WriteFault, BadProject, BadSave, BadScript, Limit, TooLarge, NoMemory}
+use Rattle.run_save.specs.declared.status.Limit.{Limit as LimitMet}
+use Rattle.run_save.specs.declared.status.Limit.TheVariants as limit
+use Rattle.run_save.specs.declared.status.Which.{Which}
+use Rattle.run_save.specs.declared.status.Status.{Status}
+use Rattle.run_save.specs.declared.status.Status.TheVariants.{Done, Usage, ReadFault, WriteFault, BadProject, BadSave, BadScript, Limit, TooLarge, NoMemory}
 
 -- what a fetch answers
 abbrev pub Fetched : Option Files → List ℕ → Which → ℕ → Type 0 → Type 0 → {A : Type 0} → (A → List ℕ) → Result A Status → Type 0
@@ -212,7 +212,7 @@ LineSteadily before now (Err (TooLarge file l)) = ⊥
 -- what the play of all lines answers
 abbrev pub PlayedTo : Ending → Type 0 → Status → Type 0
 PlayedTo ending failed Done = is_whole ending ≡ true
-PlayedTo ending failed (BadScript r) = ending ≡ ran (BadLine r)
+PlayedTo ending failed (BadScript r) = (ending ≡ ran (BadLine r)) × (r ≢ line_refusal.NoMemory)
 PlayedTo ending failed (Limit l) = ending ≡ ending_at l
 PlayedTo ending failed WriteFault = failed
 PlayedTo ending failed NoMemory = Unit {0}

@@ -10,11 +10,10 @@ ghost use Rattle.player.specs.Promise.{Bases, Loads, Checks};
 ghost use Rattle.player.specs.Stages.{Fetched, FetchedSteadily, Loaded, RefusedAs, Resumed, SaveRefusedAs};
 
 use crate::counts::Counts;
-use crate::status::{Status, Which, refusal_name, save_refusal_name};
 use project_check::{Project, load};
 use project_file::Refusal;
 use rand_pcg::Pcg32;
-use run_save::load as load_run;
+use run_save::{Status, Which, load as load_run, refusal_name, save_refusal_name};
 use saved_rules::SaveRefusal;
 use sequencer::Run;
 use std::alloc::Global;

@@ -13,7 +13,6 @@ ghost use Rattle.script_machine.specs.Program.{Program};
 ghost use Rattle.script_machine.specs.ScriptText.{clock_after, lines_of, Good};
 ghost use Rattle.script_machine.specs.Tasks.{Task};
 ghost use Rattle.script_machine.specs.World.{World};
-ghost use Rattle.script_machine.specs.FrameText.{frame_text as machine_text};
 ghost use Rattle.project_check.specs.Loaded.{program_of};
 ghost use Rattle.input_script.specs.Reader.{IsForward};
 ghost use Rattle.sequencer.specs.Runs.{world_of, IsRunOf};
@@ -24,14 +23,14 @@ ghost use Rattle.player.specs.Promise.{ran, Wrote, Writes};
 ghost use Rattle.player.specs.Stages.{line_writes, line_at, limit_in, Told, Stopped, IsWriteEnd, IsLimitEnd, IsLineEnd, LineEnds, LineWrote, LineWrites, LineSteadily, PlayedTo, PlayedSteadily};
 ghost use Rattle.player.specs.Saving.{LeftAt, IfDone};
 
-use crate::status::{Limit, Status};
 use input_script::Script;
 use itoa::Buffer;
 use project_check::Project;
+use run_save::{Limit, Status};
 use script_machine::{Budget, Line, LineRefusal};
 use script_words::{Rng, Stop};
 use sequencer::Run;
-use stage_frame::{FrameWriter, View};
+use stage_frame::FrameWriter;
 use std::alloc::{AllocError, Global};
 use sv_channels::{Sink, SinkError};
 
@@ -126,26 +125,6 @@ fn stopped<K: Sink>(alloc: Global, stop: Stop, out: &mut K) -> Status
     }
 }
 
-// The text of the frame that a run has just made. The only error is want of memory.
-fn text_of_frame<R: Rng + Drop>(
-    alloc: Global,
-    project: &Project,
-    run: &Run<R>,
-    writer: &FrameWriter<'_>,
-) -> Result<Vec<u8>, AllocError>
-    requires { records_of writer.now ≡ (program_of project.now).records }
-    ensures { IfOk result (λ text. text.items ≡ machine_text (program_of project.now) (world_of R.stream project.now run.now)) }
-{
-    let view = View {
-        frame: run.frame_number(),
-        words: run.words().drawn(),
-        targets: run.targets(),
-        variables: run.variables(),
-        devices: run.devices(),
-    };
-    writer.text(alloc, &view)
-}
-
 // Makes a frame, and writes its text.
 fn play_frame<R: Rng + Drop, K: Sink>(
     alloc: Global,
@@ -171,7 +150,7 @@ fn play_frame<R: Rng + Drop, K: Sink>(
         Ok(()) => {}
         Err(stop) => return Err(stopped(alloc, stop, out)),
     }
-    let Ok(text) = text_of_frame(alloc, project, run, writer) else {
+    let Ok(text) = writer.text_of(alloc, project, run) else {
         return Err(Status::NoMemory);
     };
     write_text(alloc, &text, out)
@@ -196,7 +175,9 @@ fn play_event<R: Rng + Drop, K: Sink>(
     ensures steady { LineSteadily (K.faults out.old) (K.faults out.new) result }
     ensures writes { LineWrites (K.calls out.old) (K.calls out.new) (line_writes (program_of project.now) line (after (program_of project.now) line (world_of R.stream project.now run.old))) result }
 {
-    match run.apply_line(project, line) {
+    let applied = run.apply_line(project, &line);
+    drop(line);
+    match applied {
         Ok(()) => Ok(()),
         Err(stop) => Err(stopped(alloc, stop, out)),
     }

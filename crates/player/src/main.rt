@@ -7,14 +7,14 @@ mod fetching;
 mod laws;
 mod lines;
 mod saving;
-mod status;
 mod top;
 mod whole_numbers;
 
 ghost use Rattle.std.specs.Prelude.{◌≡◌, IfOk};
 
 use itoa::Buffer;
-use status::{Status, exit_number, told};
+use run_save::told;
+pub use run_save::{Limit, Status, Which, exit_number, status_text};
 use std::alloc::AllocError;
 use std::env;
 use std::io::Eprint;

@@ -16,14 +16,13 @@ ghost use Rattle.player.specs.Promise.{all_of, output_of, put_or_told, text_from
 ghost use Rattle.player.specs.Saving.{EndsAs, PutEnds, PutSteadily, RunLaws, SavesInRange, shelf_now, sink_now};
 
 use crate::lines::{play_lines, tell_limit};
-use crate::status::{Limit, Status};
-use accepted_runs::an_accepted_saved_run_tells_a_reached_world;
+use accepted_runs::an_accepted_saved_run_tells_a_legal_world;
 use legal_runs::{
-    every_accepted_file_is_playable, the_first_world_is_reached, the_last_world_is_reached,
-    the_text_of_a_run_is_accepted, the_world_of_a_run_is_told,
+    every_accepted_file_is_playable, the_text_of_a_run_is_accepted, the_world_of_a_run_is_told,
 };
+use legal_worlds::{the_first_world_is_legal, the_last_world_is_legal};
 use project_check::Project;
-use saved_text::{SaveStop, SavedRun, a_saved_run_is_its_world, save, what_is_left_is_in_range};
+use run_save::{Limit, SaveStop, Status, save};
 use script_words::{Rng, pcg};
 use sequencer::Run;
 use std::alloc::Global;
@@ -41,11 +40,11 @@ pub(crate) fn runs_are_told_again()
     ensures { RunLaws }
 {
     every_accepted_file_is_playable();
-    the_first_world_is_reached();
-    the_last_world_is_reached();
+    the_first_world_is_legal();
+    the_last_world_is_legal();
     the_text_of_a_run_is_accepted();
     the_world_of_a_run_is_told();
-    an_accepted_saved_run_tells_a_reached_world();
+    an_accepted_saved_run_tells_a_legal_world();
 }
 
 // What the type of bytes says.
@@ -72,25 +71,7 @@ fn text_of<R: Rng + Drop>(
     ensures text { IsSaved longest (text_from origin.digest origin.seed (world_of R.stream project.now run.now)) result }
     ensures ranges { IfOk result (λ _. IsRun IsTask (snapshot origin.digest origin.seed (world_of R.stream project.now run.now))) }
 {
-    a_saved_run_is_its_world();
-    what_is_left_is_in_range();
-    let digest = origin.digest;
-    let variables = run.variables();
-    let saved = SavedRun {
-        digest,
-        seed: origin.seed,
-        drawn: run.words().drawn(),
-        frame: run.frame_number(),
-        next_thread: run.next_thread(),
-        next_instance: run.next_instance(),
-        instances: run.targets().instances(),
-        stores: variables.stores(),
-        file_monitors: variables.file_monitors().as_slice(),
-        made: variables.made().as_slice(),
-        devices: run.devices(),
-        threads: run.threads(),
-    };
-    save(alloc, &saved)
+    save(alloc, project, run, origin.seed, &origin.digest)
 }
 
 // Puts a text under a name.

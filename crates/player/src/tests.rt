@@ -1,9 +1,9 @@
 //! Worked rows of `play`. Each row goes through one function, so that a test is a table.
 
-use crate::status::{Status, exit_number, status_text};
 use crate::top::play;
 use project_file::Refusal;
 use project_json::JsonRefusal;
+use run_save::{Status, exit_number, status_text};
 use std::alloc::Global;
 use std::process::Abort;
 use sv_channels::{MemoryShelf, MemorySink, NamedBytes, Numbers, Pairs, Shelf, Sink, SteadySink};

@@ -10,7 +10,7 @@ use crate::command::{Command, command_of};
 use crate::counts::{Counts, accepted_line};
 use crate::fetching::{count, fetch, load_project, load_saved};
 use crate::saving::{Origin, has_its_bytes, play_first, play_on, runs_are_told_again};
-use crate::status::{Status, Which};
+use run_save::{Status, Which};
 use saved_rules::one_answer_at_most;
 use sha2::{Digest, Sha256};
 use std::alloc::Global;

@@ -1,10 +1,11 @@
 pub mod Peopled
 pub mod Differences
-pub mod Told
+pub mod ToldRuns
 pub mod Worlds
 pub mod Parts
 pub mod Keeping
 pub mod Judging
 pub mod SavedRun
 pub mod Running
+pub mod Again
 pub mod Written

@@ -67,29 +67,29 @@ alive_if p d serial Done items h = absurd (by_first (items_fit p d.clock items) 
     by_first false e = cc e
 
 module _ (p : Project) (t : Told) (x : SavedThread) (q : ThreadPart) (part : IsPart p t x q) where
-  items_are : items_told (basis_of p) t x ≡ pending (sheet_at (target_of t x) p) q.levels
+  items_are : items_told (basis_of p) t x ≡ pending (sheet_at (target_of t x) p) (thread_of q).levels
   items_are = ap (λ o. unwrap_or o []) part.made.left
 
-  warp_here : warp_told (basis_of p) t x ≡ warp_flag q.levels
+  warp_here : warp_told (basis_of p) t x ≡ warp_flag (thread_of q).levels
   warp_here =
       ap (λ o. option_map_or (λ hat. warp_on (basis_of p).program hat (items_told (basis_of p) t x)) o false) part.made.legal.under
       ∙ ap (warp_on (basis_of p).program part.made.legal.hat) items_are
-      ∙ sym (warp_is (basis_of p).program part.made.legal.hat (pending (sheet_at (target_of t x) p) q.levels) (warp_flag q.levels) part.made.legal.stands)
+      ∙ sym (warp_is (basis_of p).program part.made.legal.hat (pending (sheet_at (target_of t x) p) (thread_of q).levels) (warp_flag (thread_of q).levels) part.made.legal.stands)
 
   task_is : task (sheets p) (thread_of q) ≡ task_told (basis_of p) t x
   task_is = same_task (task (sheets p) (thread_of q)) (task_told (basis_of p) t x) part.serial_is part.of_is part.hat_is part.status_is (sym warp_here)
-      (ap (λ n. pending (sheet_at n p) q.levels) part.target_is ∙ sym items_are)
+      (ap (λ n. pending (sheet_at n p) (thread_of q).levels) part.target_is ∙ sym items_are)
 
   told_is : thread_told (task_told (basis_of p) t x) ≡ x
-  told_is = ap thread_told (same_task (task_told (basis_of p) t x) (task_with p (target_of t x) x q.levels) refl refl refl refl warp_here items_are) ∙ part.made.told
+  told_is = ap thread_told (same_task (task_told (basis_of p) t x) (task_with p (target_of t x) x (thread_of q).levels) refl refl refl refl warp_here items_are) ∙ part.made.told
 
   alive_is : is_done q.status ≡ false
-  alive_is = ap is_done part.status_is ∙ alive_if (basis_of p).program t.run.devices x.serial x.status (pending (sheet_at (target_of t x) p) q.levels) part.made.legal.well
+  alive_is = ap is_done part.status_is ∙ alive_if (basis_of p).program t.run.devices x.serial x.status (pending (sheet_at (target_of t x) p) (thread_of q).levels) part.made.legal.well
 
   fits_is : Fits (sheets p) (thread_of q)
   fits_is = record {
     done = λ e. absurd (cc (sym e ∙ alive_is));
-    open_levels = λ e. subst (λ n. IsAtRest (sheet_at n p) q.levels) (sym part.target_is) part.made.rest;
+    open_levels = λ e. subst (λ n. IsAtRest (sheet_at n p) (thread_of q).levels) (sym part.target_is) part.made.rest;
   }
 
 -- all of them

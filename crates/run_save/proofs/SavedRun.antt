@@ -2,7 +2,6 @@
 use Rattle.std.proofs.Common.{◌≡◌, ℕ, List, false, sym, ap, ◌∙◌, subst}
 use Rattle.std.specs.List.{All}
 use Rattle.rand_core.specs.Stream.{Stream}
-use Rattle.hex.specs.Hex.{encode_lower}
 use Rattle.script_machine.specs.Threads.{is_done}
 use Rattle.script_machine.specs.World.{World}
 use Rattle.script_machine.specs.Words.{seen_words}
@@ -13,6 +12,7 @@ use Rattle.thread_frames.specs.Threads.{Thread}
 use Rattle.executions.specs.Seen.{sheets}
 use Rattle.sequencer.specs.Runs.{world_of, IsRunOf}
 use Rattle.sequencer.specs.declared.run.Run.{Run}
+use Rattle.run_save.specs.Saving.{HasParts}
 use Rattle.saved_text.specs.Laws.{IsKept, RangesOfWhatIsLeft, SavesWhatIsLeft}
 use Rattle.saved_text.specs.Ranges.{IsRun, IsTask, IsThread}
 use Rattle.saved_text.specs.Saved.{Snapshot, snapshot, saved, saved_text}
@@ -24,7 +24,7 @@ all_kept : (sheets : ℕ → Sheet) (ts : List Thread) → All (Fits sheets) ts 
 all_kept sheets ts fits alive = λ k d h. record { fits = fits k d h; alive = alive k d h }
 
 -- the world of a run, with its threads by their levels
-abbrev pub levels_world : {R : Type 0} → (R → Stream) → Run R → World Thread
+abbrev levels_world : {R : Type 0} → (R → Stream) → Run R → World Thread
 levels_world stream r = record {
   frame = r.state.frame;
   words = seen_words stream r.state.words;
@@ -37,26 +37,11 @@ levels_world stream r = record {
   threads = r.state.threads;
 }
 
--- what is saved are the parts of a run
-pub record HasParts {R : Type 0} (s : Snapshot Thread) (r : Run R) (digest : List ℕ) (seed_before drawn_before : ℕ) : Type 0 where
-  pub project : s.project ≡ encode_lower digest
-  pub seed : s.seed ≡ seed_before
-  pub drawn : s.drawn ≡ drawn_before
-  pub frame : s.frame ≡ r.state.frame
-  pub next_thread : s.next_thread ≡ r.state.next_thread
-  pub next_instance : s.next_instance ≡ r.state.next_instance
-  pub targets : s.targets ≡ r.state.targets
-  pub stores : s.variables.stores ≡ r.state.variables.stores
-  pub file_monitors : s.variables.file_monitors ≡ r.state.variables.file_monitors
-  pub made : s.variables.made ≡ r.state.variables.made
-  pub devices : s.devices ≡ r.state.devices
-  pub threads : s.threads ≡ r.state.threads.list
-
-seen_parts : {R : Type 0} (stream : R → Stream) (s : Snapshot Thread) (r : Run R) (digest : List ℕ) (seed : ℕ) → HasParts s r digest seed (levels_world stream r).words.drawn
+seen_parts : {R : Type 0} (stream : R → Stream) (s : Snapshot Thread) (r : Run R) (digest : List ℕ) (seed : ℕ) → HasParts s r digest seed
     → s ≡ snapshot digest seed (levels_world stream r)
 seen_parts stream s r digest seed h = λ i. record {
   project = h.project i;
-  seed = h.seed i;
+  seed = h.seed_is i;
   drawn = h.drawn i;
   frame = h.frame i;
   next_thread = h.next_thread i;
@@ -67,7 +52,7 @@ seen_parts stream s r digest seed h = λ i. record {
   threads = h.threads i;
 }
 
-pub is_text_of_run : {R : Type 0} (stream : R → Stream) (p : Project) (s : Snapshot Thread) (r : Run R) (digest : List ℕ) (seed : ℕ) → SavesWhatIsLeft → IsRunOf p r → HasParts s r digest seed (levels_world stream r).words.drawn
+pub is_text_of_run : {R : Type 0} (stream : R → Stream) (p : Project) (s : Snapshot Thread) (r : Run R) (digest : List ℕ) (seed : ℕ) → SavesWhatIsLeft → IsRunOf p r → HasParts s r digest seed
     → saved_text thread s ≡ saved_text task (snapshot digest seed (world_of stream p r))
 unfolding saved_text
 is_text_of_run stream p s r digest seed law run h =
@@ -77,7 +62,7 @@ is_text_of_run stream p s r digest seed law run h =
     ∙ ap compact_text (sym (law (sheets p) digest seed w kept))
 
 -- what the types say of its parts is true of its world
-pub ranges_of_run : {R : Type 0} (stream : R → Stream) (p : Project) (s : Snapshot Thread) (r : Run R) (digest : List ℕ) (seed : ℕ) → RangesOfWhatIsLeft → IsRunOf p r → HasParts s r digest seed (levels_world stream r).words.drawn
+pub ranges_of_run : {R : Type 0} (stream : R → Stream) (p : Project) (s : Snapshot Thread) (r : Run R) (digest : List ℕ) (seed : ℕ) → RangesOfWhatIsLeft → IsRunOf p r → HasParts s r digest seed
     → IsRun IsThread s → IsRun IsTask (snapshot digest seed (world_of stream p r))
 ranges_of_run stream p s r digest seed law run h ranges =
     let w = levels_world stream r in

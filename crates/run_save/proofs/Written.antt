@@ -25,7 +25,7 @@ use Rattle.legal_runs.specs.Worlds.{world_told}
 use Rattle.run_save.specs.Worlds.{AllTold}
 use Rattle.run_save.proofs.Judging.{refused_thread}
 use Rattle.run_save.proofs.Keeping.{keys_named}
-use Rattle.run_save.proofs.Told.{told_again}
+use Rattle.run_save.proofs.ToldRuns.{told_again}
 
 world_text : (law : TellsWhatIsSaved) (b : Basis) (digest : List ℕ) (r : ToldRun) → encode_lower digest ≡ r.project → AllTold b (told_of r) (told_of r).run.threads → list_all is_key_name r.keys ≡ true
     → saved_text task (snapshot digest r.seed (world_told b (told_of r))) ≡ saved_text thread (told_of r).run

@@ -1,7 +1,13 @@
 -- What the loading of a saved run answers.
-use Rattle.std.specs.Prelude.{◌≡◌, ℕ, List, None, Some, Result, Ok, Err}
+use Rattle.std.specs.Prelude.{◌≡◌, ℕ, List, false, None, Some, Result, Ok, Err}
 use Rattle.rand_core.specs.Stream.{Stream}
+use Rattle.script_machine.specs.Tasks.{Task}
+use Rattle.script_machine.specs.World.{World}
+use Rattle.project_check.specs.Loaded.{program_of}
 use Rattle.project_check.specs.declared.project.Project.{Project}
+use Rattle.saved_text.specs.Ranges.{IsRun, IsTask}
+use Rattle.saved_text.specs.Saved.{snapshot, saved_text}
+use Rattle.saved_text.specs.Tasks.{task}
 use Rattle.saved_rules.specs.Basis.{basis_of}
 use Rattle.saved_rules.specs.Levels.{bad_thread}
 use Rattle.saved_rules.specs.Refusals.{IsAccepted, IsRefused}
@@ -10,6 +16,8 @@ use Rattle.saved_rules.specs.declared.refusals.SaveRefusal.{SaveRefusal}
 use Rattle.saved_rules.specs.declared.refusals.SaveRefusal.TheVariants.{BadThread, NoMemory}
 use Rattle.sequencer.specs.Runs.{world_of, IsRunOf}
 use Rattle.sequencer.specs.declared.run.Run.{Run}
+use Rattle.legal_worlds.specs.Runs.{IsLegalRun}
+use Rattle.legal_runs.specs.Good.{IsGood}
 use Rattle.legal_runs.specs.Worlds.{world_told}
 use Rattle.run_save.specs.Worlds.{AllTold}
 
@@ -22,6 +30,18 @@ pub record IsRunTold {R : Type 0} (stream : R → Stream) (p : Project) (t : Tol
 abbrev pub Loads : {R : Type 0} → (R → Stream) → Project → (digest bytes : List ℕ) → Result (Run R × ℕ) SaveRefusal → Type 0
 Loads stream p digest bytes (Ok r) = (t : Told) × IsAccepted (basis_of p) digest bytes t × IsRunTold stream p t r.0 × (r.1 ≡ t.run.seed)
 Loads stream p digest bytes (Err e) = IsRefused (basis_of p) digest bytes e
+
+-- the run of this world, but for its redraw request, and of this seed; or memory ran out
+abbrev pub IsThatRun : {R : Type 0} → (R → Stream) → Project → (seed : ℕ) → World Task → Result (Run R × ℕ) SaveRefusal → Type 0
+IsThatRun stream p seed w (Ok r) = (world_of stream p r.0 ≡ record w { redraw = false }) × (r.1 ≡ seed)
+IsThatRun stream p seed w (Err NoMemory) = Unit {0}
+IsThatRun stream p seed w (Err e) = ⊥
+
+-- the text of each legal world of this project is loaded as that run
+abbrev pub LoadsAgain : {R : Type 0} → (R → Stream) → Project → (digest bytes : List ℕ) → Result (Run R × ℕ) SaveRefusal → Type 0
+LoadsAgain stream p digest bytes result =
+    (seed : ℕ) (w : World Task) → IsGood (basis_of p) → IsLegalRun (program_of p) seed w → IsRun IsTask (snapshot digest seed w)
+    → bytes ≡ saved_text task (snapshot digest seed w) → IsThatRun stream p seed w result
 
 -- a helper of private functions: the run was made, or a thread of it breaks a rule
 abbrev pub Makes : {R : Type 0} → (R → Stream) → Project → Told → Result (Run R) SaveRefusal → Type 0

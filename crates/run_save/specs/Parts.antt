@@ -4,6 +4,7 @@ use Rattle.std.specs.List.{list_all}
 use Rattle.std.specs.declared.alloc.Global.{Global}
 use Rattle.project_check.specs.declared.project.Project.{Project}
 use Rattle.thread_frames.specs.declared.parts.ThreadPart.{ThreadPart}
+use Rattle.thread_frames.specs.Rebuilding.{thread_of}
 use Rattle.script_machine.specs.declared.instance.Instance.{Instance}
 use Rattle.script_machine.specs.Stores.{live}
 use Rattle.saved_levels.specs.Read.{IsMade}
@@ -27,7 +28,7 @@ pub record IsPart (p : Project) (t : Told) (x : SavedThread) (q : ThreadPart) : 
   pub target_is : q.target ≡ target_of t x
   pub hat_is : q.hat ≡ x.hat
   pub status_is : q.status ≡ x.status
-  pub made : IsMade p t x q.levels
+  pub made : IsMade p t x (thread_of q).levels
 
 abbrev pub AreParts : Project → Told → List SavedThread → List ThreadPart → Type 0
 AreParts p t [] [] = Unit {0}

@@ -9,19 +9,23 @@ ghost use Rattle.saved_rules.specs.Refusals.{first_difference};
 ghost use Rattle.saved_text.specs.Saved.{saved_text, snapshot};
 ghost use Rattle.saved_text.specs.Tasks.{task};
 ghost use Rattle.sequencer.specs.Runs.{world_of, IsRunOf};
-ghost use Rattle.run_save.specs.Loading.{Loads, Makes};
+ghost use Rattle.run_save.specs.Loading.{Loads, LoadsAgain, Makes};
 
+use crate::saving::saved_run;
 use crate::spelling::difference;
 use crate::telling::told_by;
 use crate::threads::parts_of;
 use executions::State;
+use legal_runs::{
+    a_digest_has_its_bytes, the_text_of_a_run_is_accepted, the_world_of_a_run_is_told,
+};
 use project_check::Project;
 use rand_pcg::Pcg32;
 use saved_levels::Waiting;
 use saved_parts::ToldRun;
-use saved_rules::{SaveRefusal, a_saved_run_tells_its_world};
+use saved_rules::{SaveRefusal, a_saved_run_tells_its_world, one_answer_at_most};
 use saved_stores::{RunStores, ToldDevices, ToldStores, stores_of};
-use saved_text::{SavedRun, a_saved_run_is_its_world, text_of};
+use saved_text::{a_saved_run_is_its_world, text_of};
 use script_words::pcg;
 use sequencer::Run;
 use std::alloc::{AllocError, Global};
@@ -72,7 +76,7 @@ fn run_of(alloc: Global, project: &Project, told: ToldRun) -> Result<Run<Pcg32>,
         devices,
         threads,
     };
-    Ok(Run::rebuild(alloc, state))
+    Ok(Run::rebuild(alloc, project, state))
 }
 
 // How many bytes stand before the first that is not written so for a run. The only error is want of memory.
@@ -88,30 +92,12 @@ fn misspelled(
     ensures { IfOk result (λ at. at ≡ first_difference bytes.now (saved_text task (snapshot digest.now seed (world_of answers project.now run.now)))) }
 {
     a_saved_run_is_its_world();
-    let digest = *digest;
-    let variables = run.variables();
-    let saved = SavedRun {
-        digest,
-        seed,
-        drawn: run.words().drawn(),
-        frame: run.frame_number(),
-        next_thread: run.next_thread(),
-        next_instance: run.next_instance(),
-        instances: run.targets().instances(),
-        stores: variables.stores(),
-        file_monitors: variables.file_monitors().as_slice(),
-        made: variables.made().as_slice(),
-        devices: run.devices(),
-        threads: run.threads(),
-    };
-    let text = text_of(alloc, &saved)?;
+    let text = text_of(alloc, &saved_run(run, seed, *digest))?;
     Ok(difference(bytes, &text))
 }
 
-/// The run that the bytes of a saved run tell, and the seed of its random words, where they are the saved run of the project
-/// with this digest (docs/formats.md, section 5); else the first of the refusals, in their order. The only other error is
-/// want of memory.
-pub fn load(
+// The run that bytes tell, or the first refusal.
+fn loaded(
     alloc: Global,
     project: &Project,
     digest: &[u8; 32],
@@ -127,4 +113,23 @@ pub fn load(
         None => Ok((run, seed)),
         Some(at) => Err(SaveRefusal::Spelling { at }),
     }
+}
+
+/// The run that the bytes of a saved run tell, and the seed of its random words, where they are the saved run of the project
+/// with this digest (docs/formats.md, section 5); else the first of the refusals, in their order. The only other error is
+/// want of memory.
+pub fn load(
+    alloc: Global,
+    project: &Project,
+    digest: &[u8; 32],
+    bytes: &[u8],
+) -> Result<(Run<Pcg32>, u64), SaveRefusal>
+    ensures answer { Loads answers project.now digest.now bytes.now result }
+    ensures again { LoadsAgain answers project.now digest.now bytes.now result }
+{
+    one_answer_at_most();
+    a_digest_has_its_bytes(*digest);
+    the_text_of_a_run_is_accepted();
+    the_world_of_a_run_is_told();
+    loaded(alloc, project, digest, bytes)
 }

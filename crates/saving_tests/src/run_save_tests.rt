@@ -5,9 +5,8 @@ ghost use Rattle.sequencer.specs.Runs.{IsRunOf};
 
 use project_check::Project;
 use rand_pcg::Pcg32;
-use run_save::load;
+use run_save::{load, save};
 use saved_rules::SaveRefusal;
-use saved_text::{SavedRun, text_of};
 use scratch_number::{Num, of_whole};
 use script_machine::{Budget, InstanceId};
 use sequencer::Run;
@@ -33,31 +32,6 @@ fn project(rt: &(impl Abort + AllocGlobal)) -> Project {
         Ok(project) => project,
         Err(_) => panic!(rt; "refused"),
     }
-}
-
-// What is written for a run.
-fn written(
-    alloc: Global,
-    run: &Run<Pcg32>,
-    digest: [u8; 32],
-    seed: u64,
-) -> Result<Vec<u8>, AllocError> {
-    let variables = run.variables();
-    let saved = SavedRun {
-        digest,
-        seed,
-        drawn: run.words().drawn(),
-        frame: run.frame_number(),
-        next_thread: run.next_thread(),
-        next_instance: run.next_instance(),
-        instances: run.targets().instances(),
-        stores: variables.stores(),
-        file_monitors: variables.file_monitors().as_slice(),
-        made: variables.made().as_slice(),
-        devices: run.devices(),
-        threads: run.threads(),
-    };
-    text_of(alloc, &saved)
 }
 
 // Parts of the run, what stands in the place of each, and the seed of the run that is loaded.
@@ -89,7 +63,7 @@ fn is_written_as_before(rt: &(impl Abort + AllocGlobal), project: &Project, text
     match load(rt.alloc(), project, &DIGEST, text.as_bytes()) {
         Ok((run, seed)) => {
             assert!(rt; seed == want);
-            let again = written(rt.alloc(), &run, DIGEST, seed).expect(rt, "memory");
+            let again = save(rt.alloc(), project, &run, seed, &DIGEST).expect(rt, "memory");
             assert!(rt; again.as_slice() == text.as_bytes(), "{text}");
             drop(run);
         }

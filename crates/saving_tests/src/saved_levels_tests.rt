@@ -15,7 +15,7 @@ use script_machine::{
 };
 use std::alloc::{AllocError, Global};
 use std::process::Abort;
-use thread_frames::Levels;
+use thread_frames::Level;
 
 // A hat, 0, over a loop, 1, which calls, 2. The procedure, 3 and 4, is warp, and waits, 5.
 static PROJECT: &str = r#"{"targets":[
@@ -77,7 +77,7 @@ fn made(
     timers: &[BubbleTimer],
     name: &str,
     top: u64,
-) -> Result<Option<Levels>, AllocError> {
+) -> Result<Option<Vec<Level>>, AllocError> {
     let alloc = rt.alloc();
     let waiting = Waiting::new(alloc, clock, &[], timers)?;
     let thread = thread(alloc, name, top)?;
@@ -91,8 +91,8 @@ fn made(
 fn a_thread_has_the_levels_that_are_told(rt: HostRuntime) {
     match made(&rt, 5000, &[], "height", 5).expect(&rt, "memory") {
         Some(levels) => {
-            assert_eq!(rt; levels.depth(), 3);
-            match levels.top() {
+            assert_eq!(rt; levels.len(), 3);
+            match levels.last() {
                 Some(top) => {
                     assert!(rt; top.block == Some(BlockId(5)));
                     assert!(rt; matches!(top.context, Context::Wait(_)));
@@ -100,7 +100,7 @@ fn a_thread_has_the_levels_that_are_told(rt: HostRuntime) {
                 }
                 None => panic!(rt; "no top"),
             }
-            match levels.get(2) {
+            match levels.first() {
                 Some(bottom) => {
                     assert!(rt; bottom.is_loop);
                     assert!(rt; !bottom.warp);

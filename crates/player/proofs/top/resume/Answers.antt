@@ -16,7 +16,7 @@ use Rattle.player.specs.Command.{ResumeForm, name_to_save}
 use Rattle.player.specs.Promise.{Outcome, Bases, Loads, PutFailed, AnswerCause, Wrote, Writes, Shelved, IsUnshelved, all_of, text_from}
 use Rattle.player.specs.Saving.{SavesInRange}
 use Rattle.player.specs.Stages.{Fetched, Resumed}
-use Rattle.player.specs.declared.status.Which.TheVariants as which
+use Rattle.run_save.specs.declared.status.Which.TheVariants as which
 use Rattle.player.proofs.Again.{resume_resumable}
 use Rattle.player.proofs.Calls.{fetched_file, all_ending, is_fetched, is_loaded, refused_cause, unfetched_wrote, load_calls, script_calls, played_cause, played_calls}
 use Rattle.player.proofs.Ends.{none_rose_behind, put_failed_before, fault_cause, silent_cause, no_usage, writes_cause, shelved_cause, unshelved_cause, hides_nothing, steady_behind}

@@ -8,7 +8,7 @@ use Rattle.player.specs.Limits.{project_limit, script_limit}
 use Rattle.player.specs.Command.{Form, name_to_save}
 use Rattle.player.specs.Promise.{Outcome, Loads, PutFailed, AnswerCause, Wrote, Writes, Shelved, IsUnshelved, all_of, text_from, words_of, output_of}
 use Rattle.player.specs.Stages.{Fetched}
-use Rattle.player.specs.declared.status.Which.TheVariants as which
+use Rattle.run_save.specs.declared.status.Which.TheVariants as which
 use Rattle.player.proofs.Again.{play_resumable}
 use Rattle.player.proofs.Calls.{fetched_file, project_reading, after_load, always, at_load, at_accepted, at_end, all_ending, loaded_fetched, refused_cause, script_causes, unfetched_wrote, load_calls, script_calls, played_cause, played_calls}
 use Rattle.player.proofs.Ends.{none_rose_behind, put_failed_before, fault_cause, silent_cause, no_usage, writes_cause, shelved_cause, unshelved_cause, hides_nothing, steady_behind}

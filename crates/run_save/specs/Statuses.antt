@@ -1,5 +1,5 @@
 -- What the command tells of a status: a text and an exit number.
-use Rattle.std.specs.Prelude.{ℕ, List, ◌++◌, Option, None, Some, codes, unwrap_or}
+use Rattle.std.specs.Prelude.{◌≢◌, ℕ, List, ◌++◌, Option, None, Some, IsSome, codes, unwrap_or}
 use Rattle.std.specs.Fmt.{decimal}
 use Rattle.project_json.specs.declared.refusal.JsonRefusal.TheVariants as json_refusal
 use Rattle.project_file.specs.declared.refusals.MutationRefusal.TheVariants as mutation_refusal
@@ -9,8 +9,8 @@ use Rattle.script_machine.specs.declared.lines.LineRefusal.{LineRefusal}
 use Rattle.script_machine.specs.declared.lines.LineRefusal.TheVariants as line_refusal
 use Rattle.saved_rules.specs.declared.refusals.SaveRefusal.{SaveRefusal}
 use Rattle.saved_rules.specs.declared.refusals.SaveRefusal.TheVariants as save_refusal
-use Rattle.player.specs.declared.status.Status.{Status}
-use Rattle.player.specs.declared.status.Status.TheVariants.{Done, Usage, ReadFault, WriteFault, BadProject, BadSave, BadScript, Limit, TooLarge, NoMemory}
+use Rattle.run_save.specs.declared.status.Status.{Status}
+use Rattle.run_save.specs.declared.status.Status.TheVariants.{Done, Usage, ReadFault, WriteFault, BadProject, BadSave, BadScript, Limit, TooLarge, NoMemory}
 
 -- the number of each refusal of a project; want of memory has none
 abbrev pub text_of_refusal : Refusal → Option (List ℕ)
@@ -94,3 +94,10 @@ exit_of_status NoMemory = 9
 abbrev pub told_text : List ℕ → Option ℕ → List ℕ
 told_text name None = name
 told_text name (Some line) = name ++ decimal line
+
+-- want of memory stands in no other status
+abbrev pub HoldsNoWant : Status → Type 0
+HoldsNoWant (BadProject r) = IsSome (text_of_refusal r)
+HoldsNoWant (BadSave r) = IsSome (text_of_save_refusal r)
+HoldsNoWant (BadScript r) = r ≢ line_refusal.NoMemory
+HoldsNoWant status = Unit {0}

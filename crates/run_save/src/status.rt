@@ -1,7 +1,7 @@
-//! How a call ends.
+//! How a call of a player ends.
 
 ghost use Rattle.std.specs.Prelude.{◌≡◌, IfOk, string_bytes, option_map};
-ghost use Rattle.player.specs.Told.{told_text, text_of_refusal, text_of_save_refusal, text_of_line, text_of_status, exit_of_line, exit_of_status};
+ghost use Rattle.run_save.specs.Statuses.{told_text, text_of_refusal, text_of_save_refusal, text_of_line, text_of_status, exit_of_line, exit_of_status};
 
 use itoa::Buffer;
 use project_file::{MutationRefusal, Refusal};
