@@ -1,12 +1,12 @@
 //! The fields of a block.
 
 ghost use Rattle.std.specs.Prelude.{◌≡◌};
-ghost use Rattle.script_machine.specs.Stores.{index_of, owner_of};
-ghost use Rattle.script_machine.specs.View.{field_at, variable_at};
+ghost use Rattle.machine_spec.specs.Stores.{index_of, owner_of};
+ghost use Rattle.machine_spec.specs.View.{field_at, variable_at};
 ghost use Rattle.target_records.specs.Records.{records_in};
 
+use machine_spec::InstanceId;
 use scratch_values::{Args, VarRef};
-use script_machine::InstanceId;
 use target_records::Records;
 
 /// The text of a field; it is empty where there is no such field.

@@ -1,7 +1,7 @@
 //! The inputs of a block.
 
 ghost use Rattle.std.specs.Prelude.{◌≡◌, IfOk};
-ghost use Rattle.script_machine.specs.View.{number_at, text_at, truth_at, value_at};
+ghost use Rattle.machine_spec.specs.View.{number_at, text_at, truth_at, value_at};
 
 use scratch_number::{Num, of_whole};
 use scratch_values::{Args, BoundText, Value, to_number, to_text, to_truth};

@@ -10,18 +10,18 @@ use Rattle.std.proofs.lemmas.List.Quantifiers.{position-Some}
 use Rattle.project_json.specs.Tree.{Tree, null, truth, number, text, list, object}
 use Rattle.scratch_number.specs.declared.number.Num.{Num}
 use Rattle.scratch_values.specs.declared.value.Value.TheVariants.{Text}
-use Rattle.project_file.specs.Values.{value}
+use Rattle.project_spec.specs.Values.{value}
 use Rattle.scratch_values.specs.declared.names.VarName.{VarName}
-use Rattle.shapes.specs.Shapes as shape
-use Rattle.shapes.specs.Shapes.{Reader, ◌>>=◌}
+use Rattle.json_shapes.specs.Shapes as shape
+use Rattle.json_shapes.specs.Shapes.{Reader, ◌>>=◌}
 use Rattle.opcode_table.specs.declared.opcode.Opcode.TheVariants.{DataVariable, DataListContents}
-use Rattle.project_file.specs.declared.blocks.Link.{Link}
-use Rattle.project_file.specs.declared.blocks.Link.TheVariants.{To, Unknown}
-use Rattle.project_file.specs.declared.blocks.Input.{Input}
-use Rattle.project_file.specs.declared.blocks.Input.TheVariants as input
-use Rattle.project_file.specs.declared.blocks.Block.{Block}
-use Rattle.project_file.specs.Blocks.{Ids, link_by, link_to, is_one_of, tag, name_and_id, literal, message, primitive_by, primitive, input_value, items_from, input_of, field_of, code_named, mutation_by, object_here, block_object, reporter, block_list, block_of}
-use Rattle.project_file.specs.Linked.{Place, Behind, In, next_link, input_link, known_block, leads_to, IsClosed}
+use Rattle.project_spec.specs.declared.blocks.Link.{Link}
+use Rattle.project_spec.specs.declared.blocks.Link.TheVariants.{To, Unknown}
+use Rattle.project_spec.specs.declared.blocks.Input.{Input}
+use Rattle.project_spec.specs.declared.blocks.Input.TheVariants as input
+use Rattle.project_spec.specs.declared.blocks.Block.{Block}
+use Rattle.project_spec.specs.Blocks.{Ids, link_by, link_to, is_one_of, tag, name_and_id, literal, message, primitive_by, primitive, input_value, items_from, input_of, field_of, code_named, mutation_by, object_here, block_object, reporter, block_list, block_of}
+use Rattle.project_spec.specs.Linked.{Place, Behind, In, next_link, input_link, known_block, leads_to, IsClosed}
 
 -- a reading that goes on was good so far
 pub bound : {A B : Type 0} (r : Result A (List ℕ)) (next : A → Result B (List ℕ)) (b : B) → r >>= next ≡ Ok b → (a : A) × (r ≡ Ok a) × (next a ≡ Ok b)

@@ -2,8 +2,8 @@
 use Rattle.std.proofs.Common.{◌≡◌, ℕ, ◌+◌, ◌<◌, length, drop, get_or, List, [], ◌∷◌, ◌++◌, map, Result, Ok, Err, refl, sym, ◌∙◌, ap, append_assoc}
 use Rattle.std.proofs.lemmas.List.{drop_more, map-append}
 use Rattle.project_json.specs.Tree.{Tree}
-use Rattle.shapes.specs.Shapes.{Reader, ◌>>=◌, each_member}
-use Rattle.shapes.specs.Each.{after}
+use Rattle.json_shapes.specs.Shapes.{Reader, ◌>>=◌, each_member}
+use Rattle.json_shapes.specs.Each.{after}
 
 after_more : {A : Type 0} (front : List A) (a : A) (rest : Result (List A) (List ℕ)) → after (front ++ a ∷ []) rest ≡ after front (rest >>= (λ more. Ok (a ∷ more)))
 after_more front a (Ok more) = ap Ok (append_assoc front (a ∷ []) more)

@@ -1,12 +1,12 @@
 -- The first that is too much in what is measured, part after part.
 use Rattle.std.proofs.Common.{◌≡◌, ℕ, ◌+◌, Bool, true, false, cond, List, [], ◌∷◌, ◌++◌, drop, map, flat_map, append_assoc, find, None, Some, option_map, refl, sym, ◌∙◌, ap}
-use Rattle.shapes.specs.Places.{path}
-use Rattle.project_file.specs.Limits.{Measure, is_too_many, first_too_many}
+use Rattle.json_shapes.specs.Places.{path}
+use Rattle.project_spec.specs.Limits.{Measure, is_too_many, first_too_many}
 use Rattle.block_table.specs.declared.refusal.BlockRefusal.{BlockRefusal}
 use Rattle.block_table.specs.declared.refusal.BlockRefusal.TheVariants.{Shape, TooLong, NoMemory}
 use Rattle.std.specs.List.{zip}
-use Rattle.project_file.specs.declared.blocks.Block.{Block}
-use Rattle.project_file.specs.Limits.{block_measures}
+use Rattle.project_spec.specs.declared.blocks.Block.{Block}
+use Rattle.project_spec.specs.Limits.{block_measures}
 use Rattle.block_table.specs.Measured.{measured_block}
 use Rattle.block_table.specs.Table.{origins}
 use Rattle.block_table.specs.Refused.{Refuses}

@@ -1,16 +1,16 @@
 -- What a mutation says of a procedure, and opcodes by their names.
 use Rattle.std.proofs.Common.{◌≡◌, ℕ, List, None, Some, Result, Ok, Err, refl, sym, ◌∙◌, ap}
-use Rattle.shapes.specs.Reads.{Reads}
-use Rattle.shapes.specs.declared.fault.Fault.{Fault}
-use Rattle.shapes.specs.declared.fault.Fault.TheVariants as fault
+use Rattle.json_shapes.specs.Reads.{Reads}
+use Rattle.json_shapes.specs.declared.fault.Fault.{Fault}
+use Rattle.json_shapes.specs.declared.fault.Fault.TheVariants as fault
 use Rattle.opcode_table.specs.declared.opcode.Opcode.{Opcode}
 use Rattle.opcode_table.specs.Table.{of_name}
-use Rattle.project_file.specs.declared.blocks.Mutation.{Mutation}
-use Rattle.project_file.specs.declared.blocks.Mutation.TheVariants as mutation
-use Rattle.project_file.specs.declared.blocks.Code.TheVariants.{Known, Other}
-use Rattle.project_file.specs.declared.refusals.MutationRefusal.{MutationRefusal}
-use Rattle.project_file.specs.declared.refusals.MutationRefusal.TheVariants.{Missing, BadText, LengthsDiffer, NoMemory}
-use Rattle.project_file.specs.Blocks.{code_named}
+use Rattle.project_spec.specs.declared.blocks.Mutation.{Mutation}
+use Rattle.project_spec.specs.declared.blocks.Mutation.TheVariants as mutation
+use Rattle.project_spec.specs.declared.blocks.Code.TheVariants.{Known, Other}
+use Rattle.project_spec.specs.declared.refusals.MutationRefusal.{MutationRefusal}
+use Rattle.project_spec.specs.declared.refusals.MutationRefusal.TheVariants.{Missing, BadText, LengthsDiffer, NoMemory}
+use Rattle.project_spec.specs.Blocks.{code_named}
 use Rattle.mutations.specs.Says.{Says}
 use Rattle.block_table.specs.FileBlock.{mutation_in}
 use Rattle.block_table.specs.Parts.{IsBad}

@@ -5,10 +5,10 @@ use Rattle.std.proofs.lemmas.Bool.{ltb-false}
 use Rattle.std.proofs.lemmas.List.Elements.{All-cons}
 use Rattle.scratch_values.specs.Longest.{longest}
 use Rattle.scratch_values.specs.declared.names.VarName.{VarName}
-use Rattle.shapes.specs.Places.{path}
-use Rattle.project_file.specs.declared.blocks.Block.{Block}
-use Rattle.project_file.specs.Reading.{Origin}
-use Rattle.project_file.specs.Limits.{Measure, measure, is_too_many, first_too_many, field_place, input_measures, default_measures, block_measures, table_measures}
+use Rattle.json_shapes.specs.Places.{path}
+use Rattle.project_spec.specs.declared.blocks.Block.{Block}
+use Rattle.project_spec.specs.Reading.{Origin}
+use Rattle.project_spec.specs.Limits.{Measure, measure, is_too_many, first_too_many, field_place, input_measures, default_measures, block_measures, table_measures}
 use Rattle.block_table.specs.Short.{AreShort, HaveShortFields}
 
 module _ (ys : List Measure) where

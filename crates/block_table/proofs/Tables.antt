@@ -2,14 +2,14 @@
 use Rattle.std.proofs.Common.{◌≡◌, ℕ, suc, None, ◌<◌, ◌^◌, Bool, List, [], ◌∷◌, length, map, Ok, refl, sym, ◌∙◌, ap, subst, arith}
 use Rattle.std.proofs.lemmas.List.{length-map}
 use Rattle.project_json.specs.Tree.{Tree}
-use Rattle.shapes.specs.Shapes.{each_member}
-use Rattle.project_file.specs.declared.blocks.Block.{Block}
-use Rattle.project_file.specs.Blocks.{block_of}
-use Rattle.project_file.specs.Linked.{IsClosed}
-use Rattle.project_file.specs.Reading.{Origin, origin_of, table_of}
+use Rattle.json_shapes.specs.Shapes.{each_member}
+use Rattle.project_spec.specs.declared.blocks.Block.{Block}
+use Rattle.project_spec.specs.Blocks.{block_of}
+use Rattle.project_spec.specs.Linked.{IsClosed}
+use Rattle.project_spec.specs.Reading.{Origin, origin_of, table_of}
 use Rattle.block_table.specs.Parts.{is_list}
 use Rattle.block_table.specs.Table.{origins, IsTable, IsNumbered, Numbered}
-use Rattle.project_file.specs.Limits.{first_too_many, table_measures}
+use Rattle.project_spec.specs.Limits.{first_too_many, table_measures}
 use Rattle.block_table.specs.Short.{HaveShortFields}
 use Rattle.block_table.proofs.Short.{short_blocks}
 use Rattle.block_table.proofs.Closed.{closed, of_blocks, length-blocks}

@@ -1,11 +1,11 @@
 -- Blocks as a project file has them, whose literals and defaults may be longer than the values of a run.
 use Rattle.std.specs.Prelude.{ℕ, List, map}
-use Rattle.project_file.specs.declared.blocks.Input.{Input}
-use Rattle.project_file.specs.declared.blocks.Mutation.{Mutation}
-use Rattle.project_file.specs.declared.blocks.Block.{Block}
-use Rattle.project_file.specs.declared.blocks.Input.TheVariants as input
-use Rattle.project_file.specs.declared.blocks.Mutation.TheVariants as mutation
-use Rattle.project_file.specs.FileValues.{value_in}
+use Rattle.project_spec.specs.declared.blocks.Input.{Input}
+use Rattle.project_spec.specs.declared.blocks.Mutation.{Mutation}
+use Rattle.project_spec.specs.declared.blocks.Block.{Block}
+use Rattle.project_spec.specs.declared.blocks.Input.TheVariants as input
+use Rattle.project_spec.specs.declared.blocks.Mutation.TheVariants as mutation
+use Rattle.project_spec.specs.FileValues.{value_in}
 use Rattle.mutations.specs.FilePrototype.{prototype_of}
 use Rattle.block_table.specs.declared.file_block.FileInput.{FileInput}
 use Rattle.block_table.specs.declared.file_block.FileInput.TheVariants as file

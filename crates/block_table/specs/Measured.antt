@@ -2,10 +2,10 @@
 use Rattle.std.specs.Prelude.{ℕ, Bool, List, [], ◌∷◌, ◌++◌, length, flat_map, codes}
 use Rattle.scratch_values.specs.declared.names.VarName.{VarName}
 use Rattle.scratch_values.specs.Longest.{longest}
-use Rattle.project_file.specs.declared.blocks.Input.{Input}
-use Rattle.project_file.specs.declared.blocks.Mutation.{Mutation}
-use Rattle.project_file.specs.declared.blocks.Block.{Block}
-use Rattle.project_file.specs.Limits.{Measure, measure, input_measures, field_place, default_measures}
+use Rattle.project_spec.specs.declared.blocks.Input.{Input}
+use Rattle.project_spec.specs.declared.blocks.Mutation.{Mutation}
+use Rattle.project_spec.specs.declared.blocks.Block.{Block}
+use Rattle.project_spec.specs.Limits.{Measure, measure, input_measures, field_place, default_measures}
 
 -- the text of a field
 abbrev pub field_measures : (is_list : Bool) → List (List ℕ) → List ℕ × VarName → List Measure

@@ -2,17 +2,17 @@
 use Rattle.std.specs.Prelude.{◌≡◌, ◌≢◌, ℕ, List, [], ◌∷◌, Bool, codes, Result, Ok, Err}
 use Rattle.project_json.specs.Tree.{Tree}
 use Rattle.scratch_values.specs.declared.names.VarName.{VarName}
-use Rattle.shapes.specs.Shapes as shape
-use Rattle.shapes.specs.Shapes.{Reader, ◌>>=◌}
-use Rattle.shapes.specs.declared.fault.Fault.{Fault}
-use Rattle.shapes.specs.declared.fault.Fault.TheVariants as fault
-use Rattle.shapes.specs.declared.fault.Fault.TheVariants.{Shape}
-use Rattle.project_file.specs.declared.blocks.Input.{Input}
-use Rattle.project_file.specs.Blocks.{Ids, input_of, field_of}
-use Rattle.project_file.specs.Reading.{origin_of}
-use Rattle.project_file.specs.declared.blocks.Mutation.TheVariants as mutation
-use Rattle.project_file.specs.declared.refusals.MutationRefusal.{MutationRefusal}
-use Rattle.project_file.specs.declared.refusals.MutationRefusal.TheVariants.{NoMemory}
+use Rattle.json_shapes.specs.Shapes as shape
+use Rattle.json_shapes.specs.Shapes.{Reader, ◌>>=◌}
+use Rattle.json_shapes.specs.declared.fault.Fault.{Fault}
+use Rattle.json_shapes.specs.declared.fault.Fault.TheVariants as fault
+use Rattle.json_shapes.specs.declared.fault.Fault.TheVariants.{Shape}
+use Rattle.project_spec.specs.declared.blocks.Input.{Input}
+use Rattle.project_spec.specs.Blocks.{Ids, input_of, field_of}
+use Rattle.project_spec.specs.Reading.{origin_of}
+use Rattle.project_spec.specs.declared.blocks.Mutation.TheVariants as mutation
+use Rattle.project_spec.specs.declared.refusals.MutationRefusal.{MutationRefusal}
+use Rattle.project_spec.specs.declared.refusals.MutationRefusal.TheVariants.{NoMemory}
 use Rattle.block_table.specs.FileBlock.{mutation_in}
 use Rattle.block_table.specs.declared.file_block.FileMutation.{FileMutation}
 

@@ -1,9 +1,9 @@
 -- Why the blocks of a target are refused.
 use Rattle.std.specs.Prelude.{◌≡◌, ℕ, List, None, Some, Result, Ok, Err}
-use Rattle.shapes.specs.declared.fault.Fault.{Fault}
-use Rattle.shapes.specs.declared.fault.Fault.TheVariants as fault
-use Rattle.project_file.specs.Limits.{Measure, first_too_many, table_measures}
-use Rattle.project_file.specs.Reading.{Table}
+use Rattle.json_shapes.specs.declared.fault.Fault.{Fault}
+use Rattle.json_shapes.specs.declared.fault.Fault.TheVariants as fault
+use Rattle.project_spec.specs.Limits.{Measure, first_too_many, table_measures}
+use Rattle.project_spec.specs.Reading.{Table}
 use Rattle.block_table.specs.declared.refusal.BlockRefusal.{BlockRefusal}
 use Rattle.block_table.specs.declared.refusal.BlockRefusal.TheVariants.{Shape, TooLong, NoMemory}
 

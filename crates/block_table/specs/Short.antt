@@ -3,7 +3,7 @@ use Rattle.std.specs.Prelude.{ℕ, ◌≤◌, List, length}
 use Rattle.std.specs.List.{All}
 use Rattle.scratch_values.specs.Longest.{longest}
 use Rattle.scratch_values.specs.declared.names.VarName.{VarName}
-use Rattle.project_file.specs.declared.blocks.Block.{Block}
+use Rattle.project_spec.specs.declared.blocks.Block.{Block}
 
 -- no field's text is longer than a text of a run
 abbrev pub AreShort : List (List ℕ × VarName) → Type 0

@@ -3,10 +3,10 @@ use Rattle.std.specs.Prelude.{◌≡◌, ◌<◌, ◌^◌, ℕ, List, length, ma
 use Rattle.std.specs.List.{zip}
 use Rattle.project_json.specs.Tree.{Tree}
 use Rattle.project_json.specs.Parts.{members_in}
-use Rattle.shapes.specs.Shapes.{Reader, ◌>>=◌, members}
-use Rattle.project_file.specs.declared.blocks.Block.{Block}
-use Rattle.project_file.specs.Linked.{IsClosed}
-use Rattle.project_file.specs.Reading.{Origin, Table, table_of}
+use Rattle.json_shapes.specs.Shapes.{Reader, ◌>>=◌, members}
+use Rattle.project_spec.specs.declared.blocks.Block.{Block}
+use Rattle.project_spec.specs.Linked.{IsClosed}
+use Rattle.project_spec.specs.Reading.{Origin, Table, table_of}
 use Rattle.block_table.specs.declared.file_block.FileBlock.{FileBlock}
 use Rattle.block_table.specs.FileBlock.{block_in}
 use Rattle.block_table.specs.Short.{HaveShortFields}

@@ -4,9 +4,9 @@
 ghost use Rattle.std.specs.Prelude.{◌≡◌, ◌∷◌, map, codes, flat_map, length};
 ghost use Rattle.std.specs.List.{zip};
 ghost use Rattle.scratch_values.specs.Longest.{longest};
-ghost use Rattle.shapes.specs.Places.{path};
-ghost use Rattle.project_file.specs.FileValues.{value_in};
-ghost use Rattle.project_file.specs.Limits.{measure, value_measures, input_measures, field_place, default_measures, block_measures};
+ghost use Rattle.json_shapes.specs.Places.{path};
+ghost use Rattle.project_spec.specs.FileValues.{value_in};
+ghost use Rattle.project_spec.specs.Limits.{measure, value_measures, input_measures, field_place, default_measures, block_measures};
 ghost use Rattle.block_table.specs.FileBlock.{named_input, mutation_in, block_in};
 ghost use Rattle.block_table.specs.Refused.{Fits, IsTooLongAt};
 ghost use Rattle.block_table.specs.Table.{origins};
@@ -14,11 +14,11 @@ ghost use Rattle.block_table.specs.Measured.{field_measures, measured_parts, mea
 
 use crate::file_block::{FileBlock, FileBlocks, FileInput, FileInputs, FileMutation};
 use crate::refusal::BlockRefusal;
+use json_shapes::Place;
 use mutations::{FilePrototype, FileValues};
-use project_file::{Block, Blocks, Fields, FileValue, Input, Inputs, Mutation, Prototype};
 use project_json::Text;
+use project_spec::{Block, Blocks, Fields, FileValue, Input, Inputs, Mutation, Prototype};
 use scratch_values::{LONGEST, Value, Values, VarName};
-use shapes::Place;
 use std::alloc::Global;
 
 // The refusal of a text at the place that is too long.

@@ -4,18 +4,18 @@ ghost use Rattle.std.specs.Prelude.{◌≡◌, map, codes, slice_get, IfOk};
 ghost use Rattle.std.specs.Option.{option_map};
 ghost use Rattle.project_json.specs.View.{tree, field};
 ghost use Rattle.scratch_values.specs.Value.{text_of};
-ghost use Rattle.shapes.specs.Reads.{Reads};
-ghost use Rattle.shapes.specs.Shapes.{each_member};
-ghost use Rattle.project_file.specs.FileValues.{value_in};
-ghost use Rattle.project_file.specs.Values as value_of;
-ghost use Rattle.project_file.specs.Blocks as told;
+ghost use Rattle.json_shapes.specs.Reads.{Reads};
+ghost use Rattle.json_shapes.specs.Shapes.{each_member};
+ghost use Rattle.project_spec.specs.FileValues.{value_in};
+ghost use Rattle.project_spec.specs.Values as value_of;
+ghost use Rattle.project_spec.specs.Blocks as told;
 ghost use Rattle.block_table.specs.Parts.{fields_in};
 
 use crate::input_list::items_from;
-use project_file::{Fields, FileValue, value};
+use json_shapes::{Fault, Place, given_members, item, text};
 use project_json::{Json, Member, Text, is_null};
+use project_spec::{Fields, FileValue, value};
 use scratch_values::{Value, VarName, to_text};
-use shapes::{Fault, Place, given_members, item, text};
 use std::alloc::{AllocError, Global};
 
 // The text of a value. The only error is want of memory.

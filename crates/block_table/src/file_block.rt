@@ -2,8 +2,8 @@
 
 use lists::ListOf;
 use mutations::FilePrototype;
-use project_file::{Code, Fields, FileValue, Link, MutationRefusal};
 use project_json::Text;
+use project_spec::{Code, Fields, FileValue, Link, MutationRefusal};
 use scratch_values::VarName;
 
 /// What an input of a block holds.

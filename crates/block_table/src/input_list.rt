@@ -2,19 +2,19 @@
 
 ghost use Rattle.std.specs.Prelude.{◌≡◌, ◌≤◌, map, length, codes, IfOk};
 ghost use Rattle.project_json.specs.View.{tree, field};
-ghost use Rattle.shapes.specs.Reads.{Reads};
-ghost use Rattle.shapes.specs.Shapes.{each_member};
-ghost use Rattle.project_file.specs.Blocks as told;
+ghost use Rattle.json_shapes.specs.Reads.{Reads};
+ghost use Rattle.json_shapes.specs.Shapes.{each_member};
+ghost use Rattle.project_spec.specs.Blocks as told;
 ghost use Rattle.block_table.specs.FileBlock.{input_in, named_input};
 ghost use Rattle.block_table.specs.Parts.{inputs_in};
 
 use crate::file_block::{FileInput, FileInputs};
 use crate::ids::Ids;
 use crate::primitives::{primitive, tag};
-use project_file::Link;
+use json_shapes::{Fault, Place, given_members, item, items};
+use machine_spec::BlockId;
 use project_json::{Json, Member, Text};
-use script_machine::BlockId;
-use shapes::{Fault, Place, given_members, item, items};
+use project_spec::Link;
 use std::alloc::{AllocError, Global};
 
 /// Where an id leads. The only error is want of memory.

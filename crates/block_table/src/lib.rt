@@ -17,8 +17,8 @@ mod refusal;
 mod salt;
 mod table;
 
-pub use project_file::{Block, Blocks, Code, Fields, Input, Inputs, Link, Mutation};
+pub use machine_spec::BlockId;
+pub use project_spec::{Block, Blocks, Code, Fields, Input, Inputs, Link, Mutation};
 pub use reading::build;
 pub use refusal::BlockRefusal;
-pub use script_machine::BlockId;
 pub use table::{BlockTable, FileTable, read_table};

@@ -3,10 +3,10 @@
 ghost use Rattle.std.specs.Prelude.{◌≡◌, map, codes, Ok, IfOk};
 ghost use Rattle.std.specs.Option.{option_map};
 ghost use Rattle.project_json.specs.View.{tree, field};
-ghost use Rattle.shapes.specs.Reads.{Reads};
-ghost use Rattle.shapes.specs.Shapes.{optional, each_member};
-ghost use Rattle.project_file.specs.Blocks as told;
-ghost use Rattle.project_file.specs.Mutation.{prototype_in, call_in};
+ghost use Rattle.json_shapes.specs.Reads.{Reads};
+ghost use Rattle.json_shapes.specs.Shapes.{optional, each_member};
+ghost use Rattle.project_spec.specs.Blocks as told;
+ghost use Rattle.project_spec.specs.Mutation.{prototype_in, call_in};
 ghost use Rattle.block_table.specs.FileBlock.{block_in, mutation_in};
 ghost use Rattle.block_table.specs.Parts.{IsBad, is_list};
 
@@ -15,13 +15,15 @@ use crate::file_block::{FileBlock, FileBlocks, FileInputs, FileMutation};
 use crate::ids::Ids;
 use crate::input_list::{inputs, link_to};
 use crate::primitives::{is_one_of, name_and_id, tag};
+use json_shapes::{
+    Fault, Place, given_truth, items, members, optional_text, present, required_text,
+};
 use lists::ListOf;
 use mutations::{read_call, read_prototype};
 use opcode_table::{Opcode, of_name};
-use project_file::{Code, Fields, Link, MutationRefusal};
 use project_json::{Json, Member, Text};
+use project_spec::{Code, Fields, Link, MutationRefusal};
 use scratch_values::VarName;
-use shapes::{Fault, Place, given_truth, items, members, optional_text, present, required_text};
 use std::alloc::{AllocError, Global};
 
 // The opcode of a name. The only error is want of memory.

@@ -4,18 +4,18 @@ ghost use Rattle.std.specs.Prelude.{◌≡◌, ◌*ℤ◌, pos, map};
 ghost use Rattle.scratch_number.specs.Arithmetic.{million};
 ghost use Rattle.scratch_number.specs.declared.number.Num.{Num};
 ghost use Rattle.project_json.specs.View.{tree};
-ghost use Rattle.shapes.specs.Reads.{Reads};
-ghost use Rattle.shapes.specs.Shapes.{required_item};
-ghost use Rattle.project_file.specs.Values as value_of;
-ghost use Rattle.project_file.specs.Blocks as told;
+ghost use Rattle.json_shapes.specs.Reads.{Reads};
+ghost use Rattle.json_shapes.specs.Shapes.{required_item};
+ghost use Rattle.project_spec.specs.Values as value_of;
+ghost use Rattle.project_spec.specs.Blocks as told;
 ghost use Rattle.block_table.specs.FileBlock.{input_in};
 
 use crate::file_block::FileInput;
-use project_file::{FileValue, num, value};
+use json_shapes::{Fault, Place, item, item_text};
 use project_json::Json;
+use project_spec::{FileValue, num, value};
 use scratch_number::{Num, Raw, order};
 use scratch_values::VarName;
-use shapes::{Fault, Place, item, item_text};
 use std::alloc::Global;
 use std::cmp::Ordering;
 

@@ -7,8 +7,8 @@ ghost use Rattle.block_table.specs.Table.{IsSmall, numbered, table_at};
 
 use crate::refusal::BlockRefusal;
 use crate::table::{BlockTable, read_table};
+use json_shapes::{Place, members};
 use project_json::{Json, Text};
-use shapes::{Place, members};
 use std::alloc::Global;
 
 /// The table of a target's `blocks`, which stand at the path and have fewer than 2^32 members. `Shape` with the path of

@@ -4,8 +4,8 @@ ghost use Rattle.std.specs.Prelude.{◌≡◌};
 ghost use Rattle.block_table.specs.declared.refusal.BlockRefusal.TheVariants.{NoMemory};
 ghost use Rattle.block_table.specs.Refused.{of_fault};
 
+use json_shapes::Fault;
 use project_json::Text;
-use shapes::Fault;
 use std::alloc::{AllocError, AllocFailed};
 
 /// Why there is no table of the blocks of a target.

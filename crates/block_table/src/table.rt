@@ -3,10 +3,10 @@
 ghost use Rattle.std.specs.Prelude.{◌≡◌, ◌<◌, ◌^◌, ◌==◌, length, map, bytes_eq, position, slice_get, IfSome};
 ghost use Rattle.std.specs.Option.{option_copied};
 ghost use Rattle.project_json.specs.View.{field};
-ghost use Rattle.shapes.specs.Reads.{Reads};
-ghost use Rattle.project_file.specs.Limits.{table_measures};
-ghost use Rattle.project_file.specs.Linked.{IsClosed};
-ghost use Rattle.project_file.specs.Reading.{table_of};
+ghost use Rattle.json_shapes.specs.Reads.{Reads};
+ghost use Rattle.project_spec.specs.Limits.{table_measures};
+ghost use Rattle.project_spec.specs.Linked.{IsClosed};
+ghost use Rattle.project_spec.specs.Reading.{table_of};
 ghost use Rattle.block_table.specs.Refused.{Fits};
 ghost use Rattle.block_table.specs.Short.{HaveShortFields};
 ghost use Rattle.block_table.specs.Table.{numbered};
@@ -16,11 +16,11 @@ use crate::file_block::FileBlocks;
 use crate::ids::Ids;
 use crate::objects::{are_lists, each_block};
 use crate::refusal::BlockRefusal;
+use json_shapes::{Fault, Place};
 use lists::ListOf;
-use project_file::{Block, Blocks};
+use machine_spec::BlockId;
 use project_json::Member;
-use script_machine::BlockId;
-use shapes::{Fault, Place};
+use project_spec::{Block, Blocks};
 use std::alloc::Global;
 use std::marker::Model;
 
@@ -35,7 +35,7 @@ pub struct FileTable {
 
 impl Model for FileTable {
     ghost use Rattle.std.specs.Prelude.{map};
-    ghost use Rattle.project_file.specs.Reading.{Table};
+    ghost use Rattle.project_spec.specs.Reading.{Table};
     ghost use Rattle.block_table.specs.FileBlock.{block_in};
     ghost use Rattle.block_table.specs.Table.{table_in, IsTable};
 

@@ -3,12 +3,12 @@
 use cached_blocks::{CachedBlock, CachedFields, CachedInputs};
 use control_blocks::apply;
 use devices::Devices;
+use machine_spec::{Context, Control, InstanceId, Serial};
 use opcode_table::Opcode;
 use project_check::{Project, load};
 use project_json::Text;
 use scratch_number::of_millionths;
 use scratch_values::{Arg, Args, BoundText, Held, ResolvedField, Value};
-use script_machine::{Context, Control, InstanceId, Serial};
 use std::process::Abort;
 use targets::Targets;
 use thread_frames::Threads;

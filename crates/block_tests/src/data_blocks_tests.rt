@@ -1,11 +1,11 @@
 //! What no clause says: blocks on a stage and two sprites, and worked rows.
 
 use data_blocks::{apply, apply_one};
+use machine_spec::InstanceId;
 use opcode_table::Opcode;
 use project_json::{Text, read as read_json};
 use scratch_number::{Num, of_millionths, of_whole};
 use scratch_values::{Arg, Args, BoundText, Held, ResolvedField, Value, VarRef, to_number};
-use script_machine::InstanceId;
 use script_words::{Counted, Rng, Stop, pcg};
 use std::alloc::{AllocError, Global};
 use std::process::Abort;

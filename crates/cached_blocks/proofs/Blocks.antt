@@ -2,7 +2,7 @@
 use Rattle.std.proofs.Common.{◌≡◌, ℕ, Bool, List, Option}
 use Rattle.opcode_table.specs.declared.opcode.Opcode.{Opcode}
 use Rattle.scratch_values.specs.declared.names.ResolvedField.{ResolvedField}
-use Rattle.project_file.specs.declared.blocks.Operand.{Operand}
+use Rattle.project_spec.specs.declared.blocks.Operand.{Operand}
 use Rattle.cached_blocks.specs.declared.block.CachedBlock.{CachedBlock}
 
 pub same-block : {op op' : Opcode} {inputs inputs' : List (List ℕ × Operand)} {in_order in_order' : Bool} {fields fields' : List ResolvedField} {next next' first first' second second' : Option ℕ} {code code' : List ℕ}

@@ -1,11 +1,11 @@
 -- The branch of a name among the inputs of a block.
 use Rattle.std.proofs.Common.{◌≡◌, ℕ, ◌+◌, ◌<◌, Bool, true, false, List, [], ◌∷◌, length, drop, get_or, bytes_eq, refl, sym, ap, ◌∙◌}
 use Rattle.std.specs.List.{filter_map}
-use Rattle.project_file.specs.declared.blocks.Input.{Input}
-use Rattle.project_file.specs.declared.blocks.Input.TheVariants as input
-use Rattle.project_file.specs.declared.blocks.Link.TheVariants.{To, Unknown}
-use Rattle.project_file.specs.Linked.{is_branch}
-use Rattle.project_file.specs.Trees.{branch, branch_by}
+use Rattle.project_spec.specs.declared.blocks.Input.{Input}
+use Rattle.project_spec.specs.declared.blocks.Input.TheVariants as input
+use Rattle.project_spec.specs.declared.blocks.Link.TheVariants.{To, Unknown}
+use Rattle.project_spec.specs.Linked.{is_branch}
+use Rattle.project_spec.specs.Trees.{branch, branch_by}
 use Rattle.cached_blocks.specs.Cached.{branch_link}
 use Rattle.cached_blocks.proofs.Steps.{left}
 

@@ -2,9 +2,9 @@
 use Rattle.std.proofs.Common.{◌≡◌, ℕ, Bool, List, [], ◌∷◌, map, refl, sym, ap, ◌∙◌}
 use Rattle.opcode_table.specs.declared.opcode.Opcode.{Opcode}
 use Rattle.opcode_table.specs.Table.{row}
-use Rattle.project_file.specs.declared.blocks.Block.{Block}
-use Rattle.project_file.specs.declared.blocks.Operand.{Operand}
-use Rattle.project_file.specs.Trees.{Sheet, op_by, operands}
+use Rattle.project_spec.specs.declared.blocks.Block.{Block}
+use Rattle.project_spec.specs.declared.blocks.Operand.{Operand}
+use Rattle.project_spec.specs.Trees.{Sheet, op_by, operands}
 use Rattle.cached_blocks.specs.Cached.{with_plugged, cached_inputs, same_names, is_in_order}
 
 -- what is plugged in changes no name

@@ -6,17 +6,17 @@ use Rattle.std.proofs.lemmas.List.Elements.{All-cons}
 use Rattle.scratch_values.specs.declared.names.VarName.{VarName}
 use Rattle.scratch_values.specs.declared.names.VarRef.{VarRef}
 use Rattle.scratch_values.specs.Args.{field_texts, field_variables}
-use Rattle.script_machine.specs.Script.{Expression, Constant, Operator, AndInput, Expressions, Script, End, Then, Statement, Branches, branch_name, branch_named, branch_of}
-use Rattle.project_file.specs.declared.blocks.Block.{Block}
-use Rattle.project_file.specs.declared.blocks.Code.{Code}
-use Rattle.project_file.specs.declared.blocks.Code.TheVariants.{Known, Other}
-use Rattle.project_file.specs.declared.blocks.Operand.{Operand}
-use Rattle.project_file.specs.declared.blocks.Operand.TheVariants.{Literal as Holds, Variable as OfVariable, List as OfList, Block as OfBlock}
-use Rattle.project_file.specs.declared.blocks.Resolved.{Resolved}
-use Rattle.project_file.specs.Resolving.{ref_at}
-use Rattle.project_file.specs.Linked.{Place, Behind, In, leads_to, IsClosed, AreRanks}
-use Rattle.project_file.specs.Trees.{Sheet, operands, operand_expression, inputs_by, fields_of, refs_from, menu_text, op_by, expression_by, expression, branches, branches_by, target_of_link, script, statement}
-use Rattle.project_file.proofs.Unrolling.{has_first, has_more, has_by, operands_lead, branches_lead, inputs_lead, next_leads, held_at, falls, within, expression-at, script-at, script-none}
+use Rattle.machine_spec.specs.Script.{Expression, Constant, Operator, AndInput, Expressions, Script, End, Then, Statement, Branches, branch_name, branch_named, branch_of}
+use Rattle.project_spec.specs.declared.blocks.Block.{Block}
+use Rattle.project_spec.specs.declared.blocks.Code.{Code}
+use Rattle.project_spec.specs.declared.blocks.Code.TheVariants.{Known, Other}
+use Rattle.project_spec.specs.declared.blocks.Operand.{Operand}
+use Rattle.project_spec.specs.declared.blocks.Operand.TheVariants.{Literal as Holds, Variable as OfVariable, List as OfList, Block as OfBlock}
+use Rattle.project_spec.specs.declared.blocks.Resolved.{Resolved}
+use Rattle.project_spec.specs.Resolving.{ref_at}
+use Rattle.project_spec.specs.Linked.{Place, Behind, In, leads_to, IsClosed, AreRanks}
+use Rattle.project_spec.specs.Trees.{Sheet, operands, operand_expression, inputs_by, fields_of, refs_from, menu_text, op_by, expression_by, expression, branches, branches_by, target_of_link, script, statement}
+use Rattle.project_spec.proofs.Unrolling.{has_first, has_more, has_by, operands_lead, branches_lead, inputs_lead, next_leads, held_at, falls, within, expression-at, script-at, script-none}
 use Rattle.cached_blocks.specs.declared.block.CachedBlock.{CachedBlock}
 use Rattle.cached_blocks.specs.Cached.{plugged_by, plugged_at, plugged, with_plugged, cached_inputs, cached_field, branch_link, cached_block, cached_at, cached_blocks}
 use Rattle.cached_blocks.specs.Told.{Tells, IsLower, IsReporter, IsPlugged, IsLinked, ScriptIsTold, LinksFall, ExpressionIsTold}

@@ -6,15 +6,15 @@ use Rattle.opcode_table.specs.Table.{row}
 use Rattle.scratch_values.specs.declared.value.Value.TheVariants.{Text}
 use Rattle.scratch_values.specs.declared.names.VarName.{VarName}
 use Rattle.scratch_values.specs.declared.names.ResolvedField.{ResolvedField}
-use Rattle.script_machine.specs.Script.{branch_name}
-use Rattle.project_file.specs.declared.blocks.Block.{Block}
-use Rattle.project_file.specs.declared.blocks.Code.{Code}
-use Rattle.project_file.specs.declared.blocks.Code.TheVariants.{Known, Other}
-use Rattle.project_file.specs.declared.blocks.Operand.{Operand}
-use Rattle.project_file.specs.declared.blocks.Operand.TheVariants.{Literal as Holds, Variable as OfVariable, List as OfList, Block as OfBlock}
-use Rattle.project_file.specs.declared.blocks.Resolved.{Resolved}
-use Rattle.project_file.specs.Resolving.{ref_at}
-use Rattle.project_file.specs.Trees.{Sheet, operands, branches, menu_text, op_by, call_code, target_of_link}
+use Rattle.machine_spec.specs.Script.{branch_name}
+use Rattle.project_spec.specs.declared.blocks.Block.{Block}
+use Rattle.project_spec.specs.declared.blocks.Code.{Code}
+use Rattle.project_spec.specs.declared.blocks.Code.TheVariants.{Known, Other}
+use Rattle.project_spec.specs.declared.blocks.Operand.{Operand}
+use Rattle.project_spec.specs.declared.blocks.Operand.TheVariants.{Literal as Holds, Variable as OfVariable, List as OfList, Block as OfBlock}
+use Rattle.project_spec.specs.declared.blocks.Resolved.{Resolved}
+use Rattle.project_spec.specs.Resolving.{ref_at}
+use Rattle.project_spec.specs.Trees.{Sheet, operands, branches, menu_text, op_by, call_code, target_of_link}
 use Rattle.cached_blocks.specs.declared.block.CachedBlock.{CachedBlock}
 
 -- the blocks of a target, and what they name

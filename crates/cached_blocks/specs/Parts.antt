@@ -1,6 +1,6 @@
 -- What a part of a block names, for a private function: no clause of a public function cites this file.
 use Rattle.std.specs.Prelude.{ℕ, ◌&&◌, Bool, true, false, List, bytes_eq}
-use Rattle.project_file.specs.declared.blocks.Resolved.{Resolved}
+use Rattle.project_spec.specs.declared.blocks.Resolved.{Resolved}
 
 -- it is what the part names
 abbrev pub is_part : Bool → List ℕ → Resolved → Bool

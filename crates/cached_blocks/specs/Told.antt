@@ -2,14 +2,14 @@
 use Rattle.std.specs.Prelude.{◌≡◌, ℕ, ◌<◌, List, length, slice_get, slice_index, Option, Some, IfSome}
 use Rattle.std.specs.List.{All}
 use Rattle.scratch_values.specs.Args.{field_texts, field_variables}
-use Rattle.script_machine.specs.Script.{Expression, Operator, Statement, Then, place_of, command_of, op_of, inputs_of, branch_of}
-use Rattle.project_file.specs.declared.blocks.Block.{Block}
-use Rattle.project_file.specs.declared.blocks.Code.TheVariants.{Known}
-use Rattle.project_file.specs.declared.blocks.Operand.{Operand}
-use Rattle.project_file.specs.declared.blocks.Operand.TheVariants.{Literal as Holds, Variable as OfVariable, List as OfList, Block as OfBlock}
+use Rattle.machine_spec.specs.Script.{Expression, Operator, Statement, Then, place_of, command_of, op_of, inputs_of, branch_of}
+use Rattle.project_spec.specs.declared.blocks.Block.{Block}
+use Rattle.project_spec.specs.declared.blocks.Code.TheVariants.{Known}
+use Rattle.project_spec.specs.declared.blocks.Operand.{Operand}
+use Rattle.project_spec.specs.declared.blocks.Operand.TheVariants.{Literal as Holds, Variable as OfVariable, List as OfList, Block as OfBlock}
 use Rattle.opcode_table.specs.declared.opcode.Opcode.{Opcode}
-use Rattle.project_file.specs.Linked.{IsClosed, AreRanks}
-use Rattle.project_file.specs.Trees.{Sheet, inputs_by, expression, script}
+use Rattle.project_spec.specs.Linked.{IsClosed, AreRanks}
+use Rattle.project_spec.specs.Trees.{Sheet, inputs_by, expression, script}
 use Rattle.cached_blocks.specs.declared.block.CachedBlock.{CachedBlock}
 use Rattle.cached_blocks.specs.Cached.{cached_blocks}
 

@@ -1,11 +1,11 @@
 //! A block as executions need it.
 
 use lists::ListOf;
+use machine_spec::BlockId;
 use opcode_table::Opcode;
-use project_file::Operand;
 use project_json::Text;
+use project_spec::Operand;
 use scratch_values::ResolvedField;
-use script_machine::BlockId;
 
 /// What is evaluated for each input of a block, with the input's name, in document order.
 pub type CachedInputs = ListOf<(Text, Operand)>;

@@ -2,16 +2,16 @@
 
 ghost use Rattle.std.specs.Prelude.{◌≡◌, ◌≤◌, length, false, map, IfOk};
 ghost use Rattle.scratch_values.specs.Longest.{longest};
-ghost use Rattle.project_file.specs.Resolving as told;
-ghost use Rattle.project_file.specs.Trees.{menu_text};
+ghost use Rattle.project_spec.specs.Resolving as told;
+ghost use Rattle.project_spec.specs.Trees.{menu_text};
 ghost use Rattle.cached_blocks.specs.Parts.{is_part};
 ghost use Rattle.block_table.specs.Short.{AreShort};
 ghost use Rattle.cached_blocks.specs.Cached.{cached_field};
 
 use crate::block::CachedFields;
 use lists::ListOf;
-use project_file::Resolved;
 use project_json::Text;
+use project_spec::Resolved;
 use scratch_values::{BoundText, ResolvedField, VarName, VarRef};
 use std::alloc::{AllocError, Global};
 

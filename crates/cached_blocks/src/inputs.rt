@@ -6,19 +6,19 @@ ghost use Rattle.std.specs.Option.{option_map};
 ghost use Rattle.scratch_values.specs.declared.names.VarRef.TheVariants.{Own};
 ghost use Rattle.opcode_table.specs.Table.{row};
 ghost use Rattle.opcode_table.specs.Views.{input_of};
-ghost use Rattle.project_file.specs.Resolving as told;
-ghost use Rattle.project_file.specs.Trees.{is_apart, operand, operand_by};
+ghost use Rattle.project_spec.specs.Resolving as told;
+ghost use Rattle.project_spec.specs.Trees.{is_apart, operand, operand_by};
 ghost use Rattle.block_table.specs.Short.{HaveShortFields, AreShort};
 ghost use Rattle.cached_blocks.specs.Cached.{sheet_with, plugged_by, plugged_at, with_plugged, same_names};
 
 use crate::block::CachedInputs;
 use crate::fields::{menu_text, ref_at};
 use lists::ListOf;
+use machine_spec::BlockId;
 use opcode_table::{InputSpec, Opcode, spec};
-use project_file::{Block, Code, Input, Link, Operand, Resolved};
 use project_json::Text;
+use project_spec::{Block, Code, Input, Link, Operand, Resolved};
 use scratch_values::{Value, VarRef};
-use script_machine::BlockId;
 use std::alloc::{AllocError, Global};
 
 // Whether an input of the name is a branch or the custom block, which are not evaluated.

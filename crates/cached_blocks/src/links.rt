@@ -2,13 +2,13 @@
 
 ghost use Rattle.std.specs.Prelude.{◌≡◌, true, [], IfOk};
 ghost use Rattle.std.specs.List.{filter_map};
-ghost use Rattle.project_file.specs.Linked.{is_branch};
-ghost use Rattle.project_file.specs.Trees.{branch, branch_by, call_code, target_of_link};
+ghost use Rattle.project_spec.specs.Linked.{is_branch};
+ghost use Rattle.project_spec.specs.Trees.{branch, branch_by, call_code, target_of_link};
 ghost use Rattle.cached_blocks.specs.Cached.{branch_link};
 
-use project_file::{Input, Link, Mutation};
+use machine_spec::BlockId;
 use project_json::Text;
-use script_machine::BlockId;
+use project_spec::{Input, Link, Mutation};
 use std::alloc::{AllocError, Global};
 
 /// The block that a link leads to.

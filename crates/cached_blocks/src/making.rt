@@ -1,7 +1,7 @@
 //! Making the blocks that executions need.
 
 ghost use Rattle.std.specs.Prelude.{◌≡◌, IfOk};
-ghost use Rattle.project_file.specs.Trees.{op_by};
+ghost use Rattle.project_spec.specs.Trees.{op_by};
 ghost use Rattle.block_table.specs.Short.{HaveShortFields};
 ghost use Rattle.cached_blocks.specs.Cached.{sheet_with, cached_block, cached_blocks};
 
@@ -11,7 +11,7 @@ use crate::inputs::{are_in_order, cached_inputs};
 use crate::links::{branch, call_code, linked};
 use lists::ListOf;
 use opcode_table::Opcode;
-use project_file::{Block, Code, Resolved};
+use project_spec::{Block, Code, Resolved};
 use std::alloc::{AllocError, Global};
 
 // The opcode of a block; a prototype's where it is not known.

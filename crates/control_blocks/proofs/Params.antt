@@ -4,8 +4,8 @@ use Rattle.std.specs.Prelude.{slice_get, slice_index_or, unwrap_or}
 use Rattle.std.proofs.lemmas.Option.{slice_get_read}
 use Rattle.scratch_values.specs.Named.{Arguments, item_named, with_param}
 use Rattle.scratch_values.specs.declared.value.Value.{Value}
-use Rattle.script_machine.specs.ControlRows.{params_from}
-use Rattle.script_machine.specs.Threads.{Params}
+use Rattle.machine_spec.specs.ControlRows.{params_from}
+use Rattle.machine_spec.specs.Threads.{Params}
 
 at-drop_suc : {A : Type 0} (xs : List A) (k : ℕ) (x : A) → slice_get xs k ≡ Some x → drop k xs ≡ x ∷ drop (suc k) xs
 at-drop_suc [] k x e = absurd (cc e)

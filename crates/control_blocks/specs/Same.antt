@@ -1,14 +1,14 @@
 -- A row that leaves the instances and devices of a run as they are, and what a row keeps; private functions alone cite it.
 use Rattle.std.specs.Prelude.{◌≡◌, Bool, true, false}
 use Rattle.opcode_table.specs.declared.kinds.Kind.{Kind}
-use Rattle.script_machine.specs.declared.threads.Context.{Context}
-use Rattle.script_machine.specs.declared.threads.Context.TheVariants.{Fresh}
-use Rattle.script_machine.specs.declared.threads.Control.{Control}
-use Rattle.script_machine.specs.Keeping.{control_fits}
-use Rattle.script_machine.specs.Laws.{is_own}
-use Rattle.script_machine.specs.ControlRows.{only}
-use Rattle.script_machine.specs.Parts.{Scene}
-use Rattle.script_machine.specs.View.{Row}
+use Rattle.machine_spec.specs.declared.threads.Context.{Context}
+use Rattle.machine_spec.specs.declared.threads.Context.TheVariants.{Fresh}
+use Rattle.machine_spec.specs.declared.threads.Control.{Control}
+use Rattle.machine_spec.specs.Keeping.{control_fits}
+use Rattle.machine_spec.specs.Laws.{is_own}
+use Rattle.machine_spec.specs.ControlRows.{only}
+use Rattle.machine_spec.specs.Parts.{Scene}
+use Rattle.machine_spec.specs.View.{Row}
 use Rattle.control_blocks.specs.Afresh.{acts_on_others}
 
 -- whatever the scene is, the row goes with this context and control, leaves the scene and requests no redraw

@@ -3,16 +3,16 @@
 ghost use Rattle.std.specs.Prelude.{◌≡◌, codes, false, not, true, if◌then◌else◌};
 ghost use Rattle.opcode_table.specs.declared.kinds.Kind.TheVariants.{Choice, Counted, Endless};
 ghost use Rattle.scratch_number.specs.Arithmetic.{round as rounded};
-ghost use Rattle.script_machine.specs.ControlRows.{branch_if, count_of, repeat_row, turns_left};
-ghost use Rattle.script_machine.specs.declared.threads.Control.TheVariants.{Branch};
-ghost use Rattle.script_machine.specs.declared.threads.Context.TheVariants.{Fresh};
-ghost use Rattle.script_machine.specs.View.{number_at, truth_at};
+ghost use Rattle.machine_spec.specs.ControlRows.{branch_if, count_of, repeat_row, turns_left};
+ghost use Rattle.machine_spec.specs.declared.threads.Control.TheVariants.{Branch};
+ghost use Rattle.machine_spec.specs.declared.threads.Context.TheVariants.{Fresh};
+ghost use Rattle.machine_spec.specs.View.{number_at, truth_at};
 ghost use Rattle.control_blocks.specs.Same.{IsOnly, KeepsWell};
 
 use block_arguments::{number, truth};
+use machine_spec::{Context, Control, Count};
 use scratch_number::{Num, round};
 use scratch_values::Args;
-use script_machine::{Context, Control, Count};
 
 // The turns of a repeat with this number: the whole number at or below it; below 0 where it is.
 fn count_of(n: Num) -> Count

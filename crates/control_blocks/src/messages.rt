@@ -2,19 +2,19 @@
 
 ghost use Rattle.std.specs.Prelude.{◌≡◌, codes, false, IfOk};
 ghost use Rattle.opcode_table.specs.declared.kinds.Kind.TheVariants.{Starts};
-ghost use Rattle.script_machine.specs.ControlRows.{broadcast_and_wait};
-ghost use Rattle.script_machine.specs.declared.threads.Control.TheVariants.{Start};
-ghost use Rattle.script_machine.specs.declared.threads.Context.TheVariants.{Fresh};
-ghost use Rattle.script_machine.specs.declared.threads.Filter.TheVariants.{Broadcast};
-ghost use Rattle.script_machine.specs.View.{text_at};
+ghost use Rattle.machine_spec.specs.ControlRows.{broadcast_and_wait};
+ghost use Rattle.machine_spec.specs.declared.threads.Control.TheVariants.{Start};
+ghost use Rattle.machine_spec.specs.declared.threads.Context.TheVariants.{Fresh};
+ghost use Rattle.machine_spec.specs.declared.threads.Filter.TheVariants.{Broadcast};
+ghost use Rattle.machine_spec.specs.View.{text_at};
 ghost use Rattle.thread_frames.specs.Threads.{listed};
-ghost use Rattle.script_machine.specs.Laws.{is_own};
+ghost use Rattle.machine_spec.specs.Laws.{is_own};
 ghost use Rattle.control_blocks.specs.Afresh.{is_started};
 ghost use Rattle.control_blocks.specs.Same.{IsOnly, KeepsWell};
 
 use block_arguments::text;
+use machine_spec::{Boxed, Context, Control, Filter};
 use scratch_values::Args;
-use script_machine::{Boxed, Context, Control, Filter};
 use std::alloc::{AllocError, Global};
 use thread_frames::Threads;
 

@@ -5,16 +5,16 @@ ghost use Rattle.opcode_table.specs.declared.kinds.Kind.TheVariants.{Calls};
 ghost use Rattle.project_check.specs.Loaded.{program_of, sheet_at};
 ghost use Rattle.project_check.specs.Procedures.{callee_in, procedure_in};
 ghost use Rattle.scratch_values.specs.Named.{item_named, with_param};
-ghost use Rattle.script_machine.specs.ControlRows.{call_row, call_some, params_from, params_of};
-ghost use Rattle.script_machine.specs.Program.{procedure};
-ghost use Rattle.script_machine.specs.Stores.{instance_at};
+ghost use Rattle.machine_spec.specs.ControlRows.{call_row, call_some, params_from, params_of};
+ghost use Rattle.machine_spec.specs.Program.{procedure};
+ghost use Rattle.machine_spec.specs.Stores.{instance_at};
 ghost use Rattle.control_blocks.specs.Same.{IsOnly, KeepsWell};
 
+use machine_spec::{Boxed, Context, Control, InstanceId, TargetId};
 use project_check::{Callee, Project};
-use project_file::Prototype;
 use project_json::Text;
+use project_spec::Prototype;
 use scratch_values::{Args, Params, Value};
-use script_machine::{Boxed, Context, Control, InstanceId, TargetId};
 use std::alloc::{AllocError, Global};
 use targets::Targets;
 

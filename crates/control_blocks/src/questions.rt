@@ -2,23 +2,23 @@
 
 ghost use Rattle.std.specs.Prelude.{◌≡◌, ◌&&◌, codes, not, IfErr, IfOk};
 ghost use Rattle.project_check.specs.Loaded.{program_of};
-ghost use Rattle.script_machine.specs.ControlRows.{ask_row, question};
-ghost use Rattle.script_machine.specs.Outcome.{Goes, StopIs};
-ghost use Rattle.script_machine.specs.Stores.{instance_at, is_on_stage};
-ghost use Rattle.script_machine.specs.declared.threads.Control.TheVariants.{Promise};
-ghost use Rattle.script_machine.specs.declared.threads.Context.TheVariants.{Asked};
-ghost use Rattle.script_machine.specs.View.{text_at};
+ghost use Rattle.machine_spec.specs.ControlRows.{ask_row, question};
+ghost use Rattle.machine_spec.specs.Outcome.{Goes, StopIs};
+ghost use Rattle.machine_spec.specs.Stores.{instance_at, is_on_stage};
+ghost use Rattle.machine_spec.specs.declared.threads.Control.TheVariants.{Promise};
+ghost use Rattle.machine_spec.specs.declared.threads.Context.TheVariants.{Asked};
+ghost use Rattle.machine_spec.specs.View.{text_at};
 ghost use Rattle.targets.specs.Live.{IsSameCast};
-ghost use Rattle.scenes.specs.Scenes.{scene_in};
-ghost use Rattle.scenes.specs.Stops.{IsOfBubblesOrMemory};
+ghost use Rattle.speech_bubbles.specs.Scenes.{scene_in};
+ghost use Rattle.speech_bubbles.specs.Stops.{IsOfBubblesOrMemory};
 
 use block_arguments::text;
 use devices::{Devices, Question};
+use machine_spec::{Context, Control, InstanceId, Serial};
 use project_check::Project;
-use scenes::show_first_question;
 use scratch_values::Args;
-use script_machine::{Context, Control, InstanceId, Serial};
 use script_words::Stop;
+use speech_bubbles::show_first_question;
 use std::alloc::{AllocError, Global};
 use targets::Targets;
 

@@ -3,15 +3,15 @@
 ghost use Rattle.std.specs.Prelude.{◌≡◌, codes, IfOk};
 ghost use Rattle.opcode_table.specs.declared.kinds.Kind.TheVariants.{Plain};
 ghost use Rattle.project_check.specs.Loaded.{program_of};
-ghost use Rattle.script_machine.specs.ControlRows.{clone_control, stop_control};
-ghost use Rattle.script_machine.specs.declared.threads.Control.TheVariants.{DeleteClone};
-ghost use Rattle.script_machine.specs.declared.threads.Context.TheVariants.{Fresh};
-ghost use Rattle.script_machine.specs.View.{field_at, text_at};
+ghost use Rattle.machine_spec.specs.ControlRows.{clone_control, stop_control};
+ghost use Rattle.machine_spec.specs.declared.threads.Control.TheVariants.{DeleteClone};
+ghost use Rattle.machine_spec.specs.declared.threads.Context.TheVariants.{Fresh};
+ghost use Rattle.machine_spec.specs.View.{field_at, text_at};
 
 use block_arguments::{field, text};
+use machine_spec::{Context, Control, InstanceId};
 use project_check::Project;
 use scratch_values::Args;
-use script_machine::{Context, Control, InstanceId};
 use std::alloc::{AllocError, Global};
 use targets::Targets;
 

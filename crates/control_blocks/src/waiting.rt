@@ -2,21 +2,21 @@
 
 ghost use Rattle.std.specs.Prelude.{◌≡◌, List, codes, true, IfOk, if◌then◌else◌};
 ghost use Rattle.opcode_table.specs.declared.kinds.Kind.TheVariants.{Plain, Waits};
-ghost use Rattle.script_machine.specs.ControlRows.{wait_row};
-ghost use Rattle.script_machine.specs.declared.instance.Instance.{Instance};
-ghost use Rattle.script_machine.specs.declared.threads.Control.TheVariants.{Next, Yield};
-ghost use Rattle.script_machine.specs.declared.threads.Context.TheVariants.{Fresh};
-ghost use Rattle.script_machine.specs.Stores.{elapsed, from_zero, less};
-ghost use Rattle.script_machine.specs.View.{number_at, truth_at};
-ghost use Rattle.scenes.specs.Scenes.{scene_in};
-ghost use Rattle.script_machine.specs.Laws.{is_own};
+ghost use Rattle.machine_spec.specs.ControlRows.{wait_row};
+ghost use Rattle.machine_spec.specs.declared.instance.Instance.{Instance};
+ghost use Rattle.machine_spec.specs.declared.threads.Control.TheVariants.{Next, Yield};
+ghost use Rattle.machine_spec.specs.declared.threads.Context.TheVariants.{Fresh};
+ghost use Rattle.machine_spec.specs.Stores.{elapsed, from_zero, less};
+ghost use Rattle.machine_spec.specs.View.{number_at, truth_at};
+ghost use Rattle.speech_bubbles.specs.Scenes.{scene_in};
+ghost use Rattle.machine_spec.specs.Laws.{is_own};
 ghost use Rattle.control_blocks.specs.Same.{KeepsWell};
 
 use block_arguments::{number, truth};
 use devices::Devices;
+use machine_spec::{Boxed, Context, Control, WaitState};
 use scratch_number::{Num, of_whole, order};
 use scratch_values::Args;
-use script_machine::{Boxed, Context, Control, WaitState};
 use std::alloc::{AllocError, Global};
 use std::cmp::Ordering;
 

@@ -5,12 +5,12 @@ use Rattle.scratch_number.specs.Arithmetic.{add}
 use Rattle.scratch_values.specs.Casts.{number}
 use Rattle.scratch_values.specs.declared.value.Value.{Value}
 use Rattle.scratch_values.specs.declared.value.Value.TheVariants.{Number}
-use Rattle.script_machine.specs.Program.{Records}
-use Rattle.script_machine.specs.declared.instance.Instance.{Instance}
-use Rattle.script_machine.specs.declared.variables.Shown.{Shown}
-use Rattle.script_machine.specs.Stores.{Variables, instance_at, value_in, items_in}
-use Rattle.script_machine.specs.Monitors.{monitor_set}
-use Rattle.script_machine.specs.DataRows.{added, items_set, value_set}
+use Rattle.machine_spec.specs.Program.{Records}
+use Rattle.machine_spec.specs.declared.instance.Instance.{Instance}
+use Rattle.machine_spec.specs.declared.variables.Shown.{Shown}
+use Rattle.machine_spec.specs.Stores.{Variables, instance_at, value_in, items_in}
+use Rattle.machine_spec.specs.Monitors.{monitor_set}
+use Rattle.machine_spec.specs.DataRows.{added, items_set, value_set}
 
 raise : ℕ → ℕ → Num → Variables → Variables
 raise n k by vs = value_set n k (Number (add (number (value_in n k vs)) by)) vs

@@ -8,10 +8,10 @@ use Rattle.std.proofs.lemmas.List.Quantifiers.{position-Some}
 use Rattle.std.proofs.lemmas.List.Sums.{position_or_len_is}
 use Rattle.std.proofs.lemmas.Option.{slice_get-get_or, unwrap_or-slice_get}
 use Rattle.scratch_values.specs.declared.value.Value.{Value}
-use Rattle.script_machine.specs.declared.variables.Store.{Store}
-use Rattle.script_machine.specs.Lists.{first_changed, changed_at_some, set_some}
-use Rattle.script_machine.specs.Stores.{Variables, store_at, items_in}
-use Rattle.script_machine.specs.DataRows.{items_set}
+use Rattle.machine_spec.specs.declared.variables.Store.{Store}
+use Rattle.machine_spec.specs.Lists.{first_changed, changed_at_some, set_some}
+use Rattle.machine_spec.specs.Stores.{Variables, store_at, items_in}
+use Rattle.machine_spec.specs.DataRows.{items_set}
 
 found : {X : Type 0} (p : X → Bool) (xs : List X) (i : ℕ) (d : X) → position p xs ≡ Some i → find p xs ≡ Some (get_or xs i d)
 found p xs i d e =

@@ -5,13 +5,13 @@ use Rattle.rand_core.specs.Stream.{Stream}
 use Rattle.script_words.specs.declared.counting.Counted.{Counted}
 use Rattle.opcode_table.specs.declared.opcode.Opcode.{Opcode}
 use Rattle.scratch_values.specs.Named.{Arguments}
-use Rattle.script_machine.specs.Outcome.{Outcome}
-use Rattle.script_machine.specs.Program.{Records}
-use Rattle.script_machine.specs.declared.instance.Instance.{Instance}
-use Rattle.script_machine.specs.Stores.{Variables}
-use Rattle.script_machine.specs.Words.{seen_words}
-use Rattle.script_machine.specs.Parts.{DataParts}
-use Rattle.script_machine.specs.DataRows.{named, data_by}
+use Rattle.machine_spec.specs.Outcome.{Outcome}
+use Rattle.machine_spec.specs.Program.{Records}
+use Rattle.machine_spec.specs.declared.instance.Instance.{Instance}
+use Rattle.machine_spec.specs.Stores.{Variables}
+use Rattle.machine_spec.specs.Words.{seen_words}
+use Rattle.machine_spec.specs.Parts.{DataParts}
+use Rattle.machine_spec.specs.DataRows.{named, data_by}
 
 -- the parts of the world that a data block may change, as the code holds them
 abbrev pub parts_of : {R : Type 0} → (R → Stream) → Variables → Counted R → DataParts

@@ -3,19 +3,19 @@
 ghost use Rattle.std.specs.Prelude.{◌≡◌, [], ◌∷◌, OnOk, IfErr, false};
 ghost use Rattle.scratch_values.specs.Args.{arguments};
 ghost use Rattle.scratch_values.specs.Held.{pair_of};
-ghost use Rattle.script_machine.specs.DataRows.{data_row};
-ghost use Rattle.script_machine.specs.Outcome.{Goes, StopIs};
-ghost use Rattle.script_machine.specs.declared.threads.Context.TheVariants.{Fresh};
-ghost use Rattle.script_machine.specs.declared.threads.Control.TheVariants.{Next};
+ghost use Rattle.machine_spec.specs.DataRows.{data_row};
+ghost use Rattle.machine_spec.specs.Outcome.{Goes, StopIs};
+ghost use Rattle.machine_spec.specs.declared.threads.Context.TheVariants.{Fresh};
+ghost use Rattle.machine_spec.specs.declared.threads.Control.TheVariants.{Next};
 ghost use Rattle.target_records.specs.Records.{records_in};
 ghost use Rattle.variables.specs.Held.{HasSameShape};
 ghost use Rattle.data_blocks.specs.Blocks.{parts_of, row};
 ghost use Rattle.data_blocks.specs.Stops.{IsOfWordsOrMemory};
 
 use crate::{list_rows, monitor_rows, variable_rows};
+use machine_spec::InstanceId;
 use opcode_table::Opcode;
 use scratch_values::{Arg, Args, ResolvedField};
-use script_machine::InstanceId;
 use script_words::{Counted, Rng, Stop};
 use target_records::Records;
 use targets::Targets;

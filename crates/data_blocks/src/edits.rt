@@ -1,8 +1,8 @@
 //! A list changed at a place that was named.
 
 ghost use Rattle.std.specs.Prelude.{◌≡◌, OnOk};
-ghost use Rattle.script_machine.specs.DataRows.{deleted, inserted, items_set, replaced};
-ghost use Rattle.script_machine.specs.Stores.{items_in};
+ghost use Rattle.machine_spec.specs.DataRows.{deleted, inserted, items_set, replaced};
+ghost use Rattle.machine_spec.specs.Stores.{items_in};
 ghost use Rattle.variables.specs.Held.{HasSameShape};
 
 use block_arguments::Place;

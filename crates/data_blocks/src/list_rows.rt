@@ -2,10 +2,10 @@
 
 ghost use Rattle.std.specs.Prelude.{◌≡◌, [], codes, OnOk, IfErr};
 ghost use Rattle.opcode_table.specs.declared.opcode.Opcode.TheVariants as opcode;
-ghost use Rattle.script_machine.specs.Outcome.{Goes, StopIs};
-ghost use Rattle.script_machine.specs.DataRows.{added, list_set, named as named_by};
-ghost use Rattle.script_machine.specs.Stores.{items_of};
-ghost use Rattle.script_machine.specs.View.{value_at};
+ghost use Rattle.machine_spec.specs.Outcome.{Goes, StopIs};
+ghost use Rattle.machine_spec.specs.DataRows.{added, list_set, named as named_by};
+ghost use Rattle.machine_spec.specs.Stores.{items_of};
+ghost use Rattle.machine_spec.specs.View.{value_at};
 ghost use Rattle.target_records.specs.Records.{records_in};
 ghost use Rattle.variables.specs.Held.{HasSameShape};
 ghost use Rattle.data_blocks.specs.Blocks.{parts_of, row};
@@ -14,8 +14,8 @@ ghost use Rattle.data_blocks.specs.Stops.{IsOfWordsOrMemory};
 use crate::edits::{deleted_at, inserted_at, replaced_at};
 use crate::places::place;
 use block_arguments::{held_at, value};
+use machine_spec::InstanceId;
 use scratch_values::Args;
-use script_machine::InstanceId;
 use script_words::{Counted, Rng, Stop};
 use std::alloc::AllocError;
 use target_records::Records;

@@ -1,16 +1,16 @@
 //! The blocks that show and hide monitors.
 
 ghost use Rattle.std.specs.Prelude.{◌≡◌, codes, OnOk};
-ghost use Rattle.script_machine.specs.declared.variables.Shown.TheVariants as shown;
-ghost use Rattle.script_machine.specs.DataRows.{named as named_by, shown_as};
-ghost use Rattle.script_machine.specs.Monitors.{monitor_set};
-ghost use Rattle.script_machine.specs.Stores.{instance_at};
+ghost use Rattle.machine_spec.specs.declared.variables.Shown.TheVariants as shown;
+ghost use Rattle.machine_spec.specs.DataRows.{named as named_by, shown_as};
+ghost use Rattle.machine_spec.specs.Monitors.{monitor_set};
+ghost use Rattle.machine_spec.specs.Stores.{instance_at};
 ghost use Rattle.target_records.specs.Records.{records_in};
 ghost use Rattle.variables.specs.Held.{HasSameShape};
 
 use block_arguments::held_at;
+use machine_spec::{InstanceId, Shown, TargetId};
 use scratch_values::Args;
-use script_machine::{InstanceId, Shown, TargetId};
 use std::alloc::AllocError;
 use target_records::Records;
 use targets::Targets;

@@ -1,10 +1,10 @@
 //! The place of a list that an input names.
 
 ghost use Rattle.std.specs.Prelude.{◌≡◌, codes, IfOk, IfErr};
-ghost use Rattle.script_machine.specs.Outcome.{Goes, StopIs};
-ghost use Rattle.script_machine.specs.Random.{indexed};
-ghost use Rattle.script_machine.specs.View.{value_at};
-ghost use Rattle.script_machine.specs.Words.{seen_words};
+ghost use Rattle.machine_spec.specs.Outcome.{Goes, StopIs};
+ghost use Rattle.machine_spec.specs.Random.{indexed};
+ghost use Rattle.machine_spec.specs.View.{value_at};
+ghost use Rattle.machine_spec.specs.Words.{seen_words};
 ghost use Rattle.data_blocks.specs.Stops.{IsOfWordsOrMemory};
 
 use scratch_number::of_whole;

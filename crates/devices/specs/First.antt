@@ -1,6 +1,6 @@
 -- The devices of a run that begins.
 use Rattle.std.specs.Prelude.{pos, [], false}
-use Rattle.script_machine.specs.Stores.{Devices}
+use Rattle.machine_spec.specs.Stores.{Devices}
 
 -- nothing is held or asked, all clocks stand at 0, and the first bubble update has the number 1
 abbrev pub first_devices : Devices

@@ -1,8 +1,8 @@
 -- Timers that are taken out.
 use Rattle.std.specs.Prelude.{remove, List, Option, Some, None}
-use Rattle.script_machine.specs.declared.devices.BubbleTimer.{BubbleTimer}
-use Rattle.script_machine.specs.Stores.{Devices}
-use Rattle.script_machine.specs.Frame.{Found}
+use Rattle.machine_spec.specs.declared.devices.BubbleTimer.{BubbleTimer}
+use Rattle.machine_spec.specs.Stores.{Devices}
+use Rattle.machine_spec.specs.Frame.{Found}
 use Rattle.devices.specs.declared.timers.Place.{Place}
 
 -- a timer that was found, as the reference machine tells it

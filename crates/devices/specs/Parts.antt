@@ -1,6 +1,6 @@
 -- Devices that are made again from their parts.
 use Rattle.std.specs.Prelude.{◌<◌, ◌^◌}
-use Rattle.script_machine.specs.Stores.{Devices}
+use Rattle.machine_spec.specs.Stores.{Devices}
 use Rattle.devices.specs.declared.parts.DeviceParts.{DeviceParts}
 
 -- the devices that hold these parts

@@ -2,10 +2,10 @@
 
 ghost use Rattle.std.specs.Prelude.{◌≡◌, ◌++◌, []};
 ghost use Rattle.std.specs.List.{list_any};
-ghost use Rattle.script_machine.specs.Sensing.{is_key};
-ghost use Rattle.script_machine.specs.Line.{without_key};
+ghost use Rattle.machine_spec.specs.Sensing.{is_key};
+ghost use Rattle.machine_spec.specs.Line.{without_key};
 
-use script_machine::{Key, Keys};
+use machine_spec::{Key, Keys};
 
 // Whether two keys are the same.
 fn is_same(key: &Key, other: &Key) -> bool

@@ -7,7 +7,7 @@ mod questions;
 mod state;
 mod timers;
 
+pub use machine_spec::{BubbleTimer, BubbleTimers, Key, Keys, Question, Questions};
 pub use parts::DeviceParts;
-pub use script_machine::{BubbleTimer, BubbleTimers, Key, Keys, Question, Questions};
 pub use state::Devices;
 pub use timers::seconds;

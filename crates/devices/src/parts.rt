@@ -1,7 +1,7 @@
 //! The parts of devices, as a saved run names them.
 
+use machine_spec::{BubbleTimers, Keys, Questions};
 use scratch_values::BoundText;
-use script_machine::{BubbleTimers, Keys, Questions};
 
 /// What the devices of a run hold: the last answer; the clock and the clock at the last reset of the timer, in
 /// milliseconds; the keys in the order of pressing; the mouse's place in stage units, and its button; the questions in the

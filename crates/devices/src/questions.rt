@@ -1,9 +1,9 @@
 //! Questions in the order of asking.
 
 ghost use Rattle.std.specs.Prelude.{◌≡◌, ◌==◌, drop, filter, not, slice_get};
-ghost use Rattle.script_machine.specs.Stopping.{is_first_of};
+ghost use Rattle.machine_spec.specs.Stopping.{is_first_of};
 
-use script_machine::{InstanceId, Question, Questions};
+use machine_spec::{InstanceId, Question, Questions};
 
 // The first question, and those behind it.
 pub(crate) fn without_first(questions: Questions) -> (Option<Question>, Questions)

@@ -3,11 +3,11 @@
 ghost use Rattle.std.specs.Prelude.{◌≡◌, ◌≤◌, ◌<◌, ◌+◌, ◌-◌, ◌^◌, ◌==◌, ◌↔◌, ◌∷◌, [], ◌++◌, drop, filter, not, slice_get, IfOk, OnOk, OnErr, IsErr};
 ghost use Rattle.std.specs.List.{list_any};
 ghost use Rattle.std.specs.Option.{option_map};
-ghost use Rattle.script_machine.specs.Sensing.{is_key};
-ghost use Rattle.script_machine.specs.Stores.{elapsed as elapsed_since};
-ghost use Rattle.script_machine.specs.Stopping.{is_first_of};
-ghost use Rattle.script_machine.specs.Line.{with_key, without_key};
-ghost use Rattle.script_machine.specs.Frame.{is_empty as is_nil, next_due};
+ghost use Rattle.machine_spec.specs.Sensing.{is_key};
+ghost use Rattle.machine_spec.specs.Stores.{elapsed as elapsed_since};
+ghost use Rattle.machine_spec.specs.Stopping.{is_first_of};
+ghost use Rattle.machine_spec.specs.Line.{with_key, without_key};
+ghost use Rattle.machine_spec.specs.Frame.{is_empty as is_nil, next_due};
 ghost use Rattle.devices.specs.First.{first_devices};
 ghost use Rattle.devices.specs.Lists.{without_due};
 ghost use Rattle.devices.specs.Parts.{devices_of, HasUsage};
@@ -15,10 +15,10 @@ ghost use Rattle.devices.specs.Parts.{devices_of, HasUsage};
 use crate::parts::DeviceParts;
 use crate::timers::{self, seconds};
 use crate::{keys, questions};
+use machine_spec::{BubbleTimer, BubbleTimers, InstanceId, Key, Keys, Question, Questions};
 use project_json::Text;
 use scratch_number::Num;
 use scratch_values::BoundText;
-use script_machine::{BubbleTimer, BubbleTimers, InstanceId, Key, Keys, Question, Questions};
 use script_words::CounterFull;
 use std::alloc::{AllocError, Global};
 use std::marker::Model;
@@ -65,7 +65,7 @@ impl Drop for Devices {
 
 impl Model for Devices {
     ghost use Rattle.std.specs.Prelude.{◌<◌, ◌^◌};
-    ghost use Rattle.script_machine.specs.Stores.{Devices as Seen};
+    ghost use Rattle.machine_spec.specs.Stores.{Devices as Seen};
 
     ghost Value = { Seen };
 

@@ -2,12 +2,12 @@
 
 ghost use Rattle.std.specs.Prelude.{◌≡◌, ◌==◌, ◌<◌, ◌++◌, ◌∷◌, [], ℕ, filter, not, length, IfSome, OnOk, OnErr, Some};
 ghost use Rattle.std.specs.Option.{option_map};
-ghost use Rattle.script_machine.specs.Stores.{less as is_less, seconds as seconds_of};
-ghost use Rattle.script_machine.specs.Frame.{is_due as due, next_due, sooner as first_of};
+ghost use Rattle.machine_spec.specs.Stores.{less as is_less, seconds as seconds_of};
+ghost use Rattle.machine_spec.specs.Frame.{is_due as due, next_due, sooner as first_of};
 ghost use Rattle.devices.specs.Lists.{found, without_found};
 
+use machine_spec::{BubbleTimer, BubbleTimers, InstanceId};
 use scratch_number::{Num, of_millionths, order};
-use script_machine::{BubbleTimer, BubbleTimers, InstanceId};
 use std::alloc::AllocError;
 use std::cmp::Ordering;
 

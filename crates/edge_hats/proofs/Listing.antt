@@ -5,15 +5,15 @@ use Rattle.std.specs.List.{list_any}
 use Rattle.std.proofs.lemmas.List.Elements.{All-head, All-tail}
 use Rattle.std.proofs.lemmas.List.{drop_all, length-map}
 use Rattle.rand_core.specs.Stream.{Stream}
-use Rattle.script_machine.specs.Frame.{edges, edge_one, edges_passed}
-use Rattle.script_machine.specs.Outcome.{Outcome, Goes, then_do, StopIs}
-use Rattle.script_machine.specs.Places.{Places}
-use Rattle.script_machine.specs.Program.{Program}
-use Rattle.script_machine.specs.Starting as machine
-use Rattle.script_machine.specs.Starting.{Pair, pairs}
-use Rattle.script_machine.specs.Tasks.{Task, tasks}
-use Rattle.script_machine.specs.World.{World}
-use Rattle.script_machine.specs.declared.instance.Instance.{Instance}
+use Rattle.machine_spec.specs.Frame.{edges, edge_one, edges_passed}
+use Rattle.machine_spec.specs.Outcome.{Outcome, Goes, then_do, StopIs}
+use Rattle.machine_spec.specs.Places.{Places}
+use Rattle.machine_spec.specs.Program.{Program}
+use Rattle.machine_spec.specs.Starting as machine
+use Rattle.machine_spec.specs.Starting.{Pair, pairs}
+use Rattle.machine_spec.specs.Tasks.{Task, tasks}
+use Rattle.machine_spec.specs.World.{World}
+use Rattle.machine_spec.specs.declared.instance.Instance.{Instance}
 use Rattle.script_words.specs.declared.stops.Stop.{Stop}
 use Rattle.project_check.specs.declared.project.Project.{Project}
 use Rattle.project_check.specs.Loaded.{program_of}

@@ -2,9 +2,9 @@
 use Rattle.std.proofs.Common.{◌≡◌, ℕ, zero, suc, ◌<◌, Bool, List, [], ◌∷◌, length, Option, Some, None, refl, sym, ap, ◌∙◌, arith}
 use Rattle.std.specs.Prelude.{Contains, slice_get, slice_set, slice_index_or, position}
 use Rattle.std.proofs.lemmas.Option.{same_Some}
-use Rattle.script_machine.specs.declared.instance.Instance.{Instance}
-use Rattle.script_machine.specs.Lists.{set_some, changed_at_some, first_changed}
-use Rattle.script_machine.specs.Starting.{Pair}
+use Rattle.machine_spec.specs.declared.instance.Instance.{Instance}
+use Rattle.machine_spec.specs.Lists.{set_some, changed_at_some, first_changed}
+use Rattle.machine_spec.specs.Starting.{Pair}
 use Rattle.project_check.specs.declared.project.Project.{Project}
 use Rattle.hats.specs.Heads.{IsHeadOf}
 

@@ -6,20 +6,20 @@ use Rattle.rand_core.specs.Stream.{Stream}
 use Rattle.scratch_values.specs.declared.value.Value.{Value}
 use Rattle.script_words.specs.declared.stops.Stop.{Stop}
 use Rattle.script_words.specs.declared.counting.Counted.{Counted}
-use Rattle.script_machine.specs.Evaluate.{arguments_of, values}
-use Rattle.script_machine.specs.Frame.{with_edge, edge_fired, edge_passed, edge_value, edge_view, edge_one}
-use Rattle.script_machine.specs.Outcome.{Outcome, Goes, Full, TooLong, Spent, then_do, StopIs}
-use Rattle.script_machine.specs.Places.{Places, Everyone}
-use Rattle.script_machine.specs.Script.{Script, Then, Statement, inputs_of}
-use Rattle.script_machine.specs.Starting.{Pair, start_all}
-use Rattle.script_machine.specs.Stores.{Devices, on_instance}
-use Rattle.script_machine.specs.Tasks.{Task, begin_pairs}
-use Rattle.script_machine.specs.View.{View, number_at}
-use Rattle.script_machine.specs.Words.{Drawn, made_of, seen_words}
-use Rattle.script_machine.specs.World.{World}
-use Rattle.script_machine.specs.declared.instance.Instance.{Instance}
-use Rattle.project_file.specs.Trees.{script}
-use Rattle.project_file.proofs.Unrolling.{script-at}
+use Rattle.machine_spec.specs.Evaluate.{arguments_of, values}
+use Rattle.machine_spec.specs.Frame.{with_edge, edge_fired, edge_passed, edge_value, edge_view, edge_one}
+use Rattle.machine_spec.specs.Outcome.{Outcome, Goes, Full, TooLong, Spent, then_do, StopIs}
+use Rattle.machine_spec.specs.Places.{Places, Everyone}
+use Rattle.machine_spec.specs.Script.{Script, Then, Statement, inputs_of}
+use Rattle.machine_spec.specs.Starting.{Pair, start_all}
+use Rattle.machine_spec.specs.Stores.{Devices, on_instance}
+use Rattle.machine_spec.specs.Tasks.{Task, begin_pairs}
+use Rattle.machine_spec.specs.View.{View, number_at}
+use Rattle.machine_spec.specs.Words.{Drawn, made_of, seen_words}
+use Rattle.machine_spec.specs.World.{World}
+use Rattle.machine_spec.specs.declared.instance.Instance.{Instance}
+use Rattle.project_spec.specs.Trees.{script}
+use Rattle.project_spec.proofs.Unrolling.{script-at}
 use Rattle.project_check.specs.declared.project.Project.{Project}
 use Rattle.project_check.specs.Loaded.{program_of, tables_of, blocks_at, sheet_at, ranks_at}
 use Rattle.thread_frames.specs.Fit.{Fits}

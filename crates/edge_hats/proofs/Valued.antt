@@ -2,11 +2,11 @@
 use Rattle.std.proofs.Common.{◌≡◌, Bool, Err, sym, ap, ◌∙◌}
 use Rattle.scratch_values.specs.Named.{Arguments}
 use Rattle.script_words.specs.declared.stops.Stop.{Stop}
-use Rattle.script_machine.specs.Evaluate.{evaluated}
-use Rattle.script_machine.specs.Outcome.{Goes, then_do, StopIs}
-use Rattle.script_machine.specs.Script.{Statement}
-use Rattle.script_machine.specs.View.{View}
-use Rattle.script_machine.specs.Words.{Words, made_of}
+use Rattle.machine_spec.specs.Evaluate.{evaluated}
+use Rattle.machine_spec.specs.Outcome.{Goes, then_do, StopIs}
+use Rattle.machine_spec.specs.Script.{Statement}
+use Rattle.machine_spec.specs.View.{View}
+use Rattle.machine_spec.specs.Words.{Words, made_of}
 use Rattle.executions.proofs.Stops.{stop-then}
 use Rattle.edge_hats.specs.Values.{is_above, valued}
 

@@ -1,7 +1,7 @@
 -- An edge hat of a live instance; the contracts of private functions alone cite this file.
 use Rattle.std.specs.Prelude.{◌≡◌, List}
-use Rattle.script_machine.specs.declared.instance.Instance.{Instance}
-use Rattle.script_machine.specs.Starting.{Pair}
+use Rattle.machine_spec.specs.declared.instance.Instance.{Instance}
+use Rattle.machine_spec.specs.Starting.{Pair}
 use Rattle.project_check.specs.declared.project.Project.{Project}
 use Rattle.hats.specs.declared.edge_hats.EdgeHat.{EdgeHat}
 use Rattle.hats.specs.Edges.{edge_of}

@@ -1,13 +1,13 @@
 -- The value of an edge hat, as the code evaluates it; the contracts of private functions alone cite this file.
 use Rattle.std.specs.Prelude.{◌&&◌, Bool, codes}
 use Rattle.scratch_values.specs.Named.{Arguments}
-use Rattle.script_machine.specs.Evaluate.{evaluated}
-use Rattle.script_machine.specs.Outcome.{Outcome, then_do}
-use Rattle.script_machine.specs.Script.{Statement}
-use Rattle.script_machine.specs.Starting.{same_folded}
-use Rattle.script_machine.specs.Stores.{Devices, elapsed, less}
-use Rattle.script_machine.specs.View.{View, field_at, number_at}
-use Rattle.script_machine.specs.Words.{Words, Drawn, made_of}
+use Rattle.machine_spec.specs.Evaluate.{evaluated}
+use Rattle.machine_spec.specs.Outcome.{Outcome, then_do}
+use Rattle.machine_spec.specs.Script.{Statement}
+use Rattle.machine_spec.specs.Starting.{same_folded}
+use Rattle.machine_spec.specs.Stores.{Devices, elapsed, less}
+use Rattle.machine_spec.specs.View.{View, field_at, number_at}
+use Rattle.machine_spec.specs.Words.{Words, Drawn, made_of}
 
 -- by the arguments of the hat: it is of the timer, which is above VALUE
 abbrev pub is_above : Arguments → Devices → Bool

@@ -1,13 +1,13 @@
 //! The value of an edge hat.
 
 ghost use Rattle.std.specs.Prelude.{◌≡◌, ◌<◌, codes, length, Some, IfOk};
-ghost use Rattle.script_machine.specs.Outcome.{Goes, StopIs};
-ghost use Rattle.script_machine.specs.Script.{Statement, Script, Then};
-ghost use Rattle.script_machine.specs.Starting.{same_folded};
-ghost use Rattle.script_machine.specs.Stores.{less};
-ghost use Rattle.script_machine.specs.Words.{seen_words};
+ghost use Rattle.machine_spec.specs.Outcome.{Goes, StopIs};
+ghost use Rattle.machine_spec.specs.Script.{Statement, Script, Then};
+ghost use Rattle.machine_spec.specs.Starting.{same_folded};
+ghost use Rattle.machine_spec.specs.Stores.{less};
+ghost use Rattle.machine_spec.specs.Words.{seen_words};
 ghost use Rattle.project_check.specs.Loaded.{tables_of, blocks_at};
-ghost use Rattle.project_file.specs.Trees.{script};
+ghost use Rattle.project_spec.specs.Trees.{script};
 ghost use Rattle.evaluate.specs.Seen.{seen, sheet_of};
 ghost use Rattle.edge_hats.specs.Values as values;
 ghost use Rattle.edge_hats.specs.Values.{valued};
@@ -16,9 +16,9 @@ use block_arguments::{field, number};
 use caseless::default_caseless_match_str;
 use devices::Devices;
 use evaluate::{View, inputs};
+use machine_spec::BlockId;
 use scratch_number::{Num, order};
 use scratch_values::Args;
-use script_machine::BlockId;
 use script_words::{Counted, Rng, Stop};
 use std::alloc::Global;
 use std::cmp::Ordering;

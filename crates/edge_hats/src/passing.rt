@@ -1,9 +1,9 @@
 //! The edge hats of a frame, one after another.
 
 ghost use Rattle.std.specs.Prelude.{◌≡◌, ◌&&◌, true, false, map, not, unwrap_or, IfOk};
-ghost use Rattle.script_machine.specs.Frame as machine;
-ghost use Rattle.script_machine.specs.Outcome.{Goes, StopIs};
-ghost use Rattle.script_machine.specs.Starting.{Pair};
+ghost use Rattle.machine_spec.specs.Frame as machine;
+ghost use Rattle.machine_spec.specs.Outcome.{Goes, StopIs};
+ghost use Rattle.machine_spec.specs.Starting.{Pair};
 ghost use Rattle.project_check.specs.Loaded.{program_of};
 ghost use Rattle.hats.specs.Edges.{edge_of, free_edges};
 ghost use Rattle.hats.specs.Heads.{IsEdgeOf, IsHeadOf};

@@ -5,9 +5,9 @@ use Rattle.std.proofs.lemmas.Slice.Eq.{bytes_eq-Decides}
 use Rattle.opcode_table.specs.declared.opcode.Opcode.{Opcode}
 use Rattle.opcode_table.specs.declared.opcode.Opcode.TheVariants.{OperatorNot, OperatorJoin, OperatorRound}
 use Rattle.opcode_table.specs.Table.{row}
-use Rattle.project_file.specs.declared.blocks.Block.{Block}
-use Rattle.project_file.specs.declared.blocks.Operand.{Operand}
-use Rattle.project_file.specs.Trees.{Sheet, operands, op_by}
+use Rattle.project_spec.specs.declared.blocks.Block.{Block}
+use Rattle.project_spec.specs.declared.blocks.Operand.{Operand}
+use Rattle.project_spec.specs.Trees.{Sheet, operands, op_by}
 use Rattle.cached_blocks.specs.declared.block.CachedBlock.{CachedBlock}
 use Rattle.cached_blocks.specs.Cached.{cached_blocks, same_names, with_plugged}
 use Rattle.cached_blocks.proofs.Told.{held}

@@ -2,7 +2,7 @@
 use Rattle.std.proofs.Common.{◌≡◌, ℕ, zero, suc, ◌<◌, arith, List, [], ◌∷◌, length, get_or, subst, sym}
 use Rattle.std.specs.List.{All}
 use Rattle.std.proofs.lemmas.List.Elements.{All-head, All-tail}
-use Rattle.project_file.specs.declared.blocks.Operand.{Operand}
+use Rattle.project_spec.specs.declared.blocks.Operand.{Operand}
 use Rattle.evaluate.specs.declared.view.View.{View}
 use Rattle.evaluate.specs.Plugged.{IsPluggedIn, ArePluggedIn}
 

@@ -10,12 +10,12 @@ use Rattle.scratch_values.specs.declared.value.Value.TheVariants.{Number, Truth}
 use Rattle.scratch_values.specs.Args.{arguments}
 use Rattle.scratch_values.specs.Casts.{number, truth}
 use Rattle.scratch_values.specs.Value.{text_of}
-use Rattle.script_machine.specs.Outcome.{Outcome, Goes, Full, TooLong, Spent, then_do}
-use Rattle.script_machine.specs.Reporters.{reported}
-use Rattle.script_machine.specs.Texts.{text_value}
-use Rattle.script_machine.specs.Words.{Words, Drawn, undrawn, made_of}
-use Rattle.script_machine.specs.View.{View as Sight}
-use Rattle.project_file.specs.declared.blocks.Operand.{Operand}
+use Rattle.machine_spec.specs.Outcome.{Outcome, Goes, Full, TooLong, Spent, then_do}
+use Rattle.machine_spec.specs.Reporters.{reported}
+use Rattle.machine_spec.specs.Texts.{text_value}
+use Rattle.machine_spec.specs.Words.{Words, Drawn, undrawn, made_of}
+use Rattle.machine_spec.specs.View.{View as Sight}
+use Rattle.project_spec.specs.declared.blocks.Operand.{Operand}
 use Rattle.cached_blocks.specs.declared.block.CachedBlock.{CachedBlock}
 use Rattle.evaluate.specs.declared.view.View.{View}
 use Rattle.evaluate.specs.declared.ways.Arithmetic.{Arithmetic}

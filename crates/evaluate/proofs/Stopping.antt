@@ -17,17 +17,17 @@ use Rattle.scratch_values.specs.declared.value.Value.TheVariants.{Number, Text a
 use Rattle.script_words.specs.declared.stops.CounterKind.TheVariants as counter
 use Rattle.script_words.specs.declared.stops.Stop.{Stop}
 use Rattle.script_words.specs.declared.stops.Stop.TheVariants.{Stack, Text, Counter, NoMemory}
-use Rattle.script_machine.specs.Evaluate.{value, values}
-use Rattle.script_machine.specs.Outcome.{Outcome, Goes, Full, TooLong, Spent, StopIs, then_do, last_number}
-use Rattle.script_machine.specs.Random.{looks_whole, between_bounds, picked, picked_by, pick_random, indexed}
-use Rattle.script_machine.specs.Reporters.{reported, items, item_at}
-use Rattle.script_machine.specs.Script.{Expression, Constant, Variable, Contents, Operator, Expressions, NoInput, AndInput}
-use Rattle.script_machine.specs.Stores.{items_of}
+use Rattle.machine_spec.specs.Evaluate.{value, values}
+use Rattle.machine_spec.specs.Outcome.{Outcome, Goes, Full, TooLong, Spent, StopIs, then_do, last_number}
+use Rattle.machine_spec.specs.Random.{looks_whole, between_bounds, picked, picked_by, pick_random, indexed}
+use Rattle.machine_spec.specs.Reporters.{reported, items, item_at}
+use Rattle.machine_spec.specs.Script.{Expression, Constant, Variable, Contents, Operator, Expressions, NoInput, AndInput}
+use Rattle.machine_spec.specs.Stores.{items_of}
 use Rattle.scratch_values.specs.Longest.{longest}
-use Rattle.script_machine.specs.Texts.{text_value, contents_text}
-use Rattle.script_machine.specs.View.{View as Seen, value_at, text_at}
-use Rattle.script_machine.specs.Words.{Words, Drawn, undrawn, made_of, draw}
-use Rattle.project_file.specs.Trees.{expression, inputs_by}
+use Rattle.machine_spec.specs.Texts.{text_value, contents_text}
+use Rattle.machine_spec.specs.View.{View as Seen, value_at, text_at}
+use Rattle.machine_spec.specs.Words.{Words, Drawn, undrawn, made_of, draw}
+use Rattle.project_spec.specs.Trees.{expression, inputs_by}
 use Rattle.cached_blocks.specs.Cached.{cached_blocks}
 use Rattle.cached_blocks.specs.declared.block.CachedBlock.{CachedBlock}
 use Rattle.evaluate.specs.declared.view.View.{View}

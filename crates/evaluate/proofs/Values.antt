@@ -9,11 +9,11 @@ use Rattle.scratch_values.specs.declared.value.Value.{Value}
 use Rattle.scratch_values.specs.Args.{arguments}
 use Rattle.scratch_values.specs.declared.held.Arg.{Arg}
 use Rattle.scratch_values.specs.Held.{held, pair_of}
-use Rattle.script_machine.specs.Outcome.{Outcome, Goes, Full, TooLong, Spent, then_do, StopIs}
-use Rattle.script_machine.specs.Script.{Statement}
-use Rattle.script_machine.specs.Words.{Words, Drawn, made_of}
-use Rattle.script_machine.specs.Evaluate.{values, evaluated}
-use Rattle.project_file.specs.declared.blocks.Operand.{Operand}
+use Rattle.machine_spec.specs.Outcome.{Outcome, Goes, Full, TooLong, Spent, then_do, StopIs}
+use Rattle.machine_spec.specs.Script.{Statement}
+use Rattle.machine_spec.specs.Words.{Words, Drawn, made_of}
+use Rattle.machine_spec.specs.Evaluate.{values, evaluated}
+use Rattle.project_spec.specs.declared.blocks.Operand.{Operand}
 use Rattle.cached_blocks.specs.declared.block.CachedBlock.{CachedBlock}
 use Rattle.cached_blocks.specs.Cached.{cached_blocks}
 use Rattle.cached_blocks.specs.Told.{Tells}

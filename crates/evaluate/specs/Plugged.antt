@@ -1,6 +1,6 @@
 -- Inputs whose reporters have smaller ranks than their block; the contracts of private functions alone cite it.
 use Rattle.std.specs.Prelude.{ℕ, List, [], ◌∷◌}
-use Rattle.project_file.specs.declared.blocks.Operand.{Operand}
+use Rattle.project_spec.specs.declared.blocks.Operand.{Operand}
 use Rattle.cached_blocks.specs.Told.{IsPlugged}
 use Rattle.project_check.specs.Loaded.{blocks_at, ranks_at}
 use Rattle.evaluate.specs.declared.view.View.{View}

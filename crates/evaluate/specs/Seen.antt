@@ -4,12 +4,12 @@ use Rattle.scratch_values.specs.Named.{Arguments}
 use Rattle.scratch_values.specs.Args.{arguments}
 use Rattle.scratch_values.specs.declared.names.ResolvedField.{ResolvedField}
 use Rattle.scratch_values.specs.declared.value.Value.{Value}
-use Rattle.script_machine.specs.Outcome.{Outcome, then_do}
-use Rattle.script_machine.specs.Words.{Words, Drawn, undrawn, made_of}
-use Rattle.script_machine.specs.View.{View as Seen}
-use Rattle.script_machine.specs.Evaluate.{value, values}
-use Rattle.project_file.specs.declared.blocks.Operand.{Operand}
-use Rattle.project_file.specs.Trees.{Sheet, operand_expression, inputs_by, expression}
+use Rattle.machine_spec.specs.Outcome.{Outcome, then_do}
+use Rattle.machine_spec.specs.Words.{Words, Drawn, undrawn, made_of}
+use Rattle.machine_spec.specs.View.{View as Seen}
+use Rattle.machine_spec.specs.Evaluate.{value, values}
+use Rattle.project_spec.specs.declared.blocks.Operand.{Operand}
+use Rattle.project_spec.specs.Trees.{Sheet, operand_expression, inputs_by, expression}
 use Rattle.cached_blocks.specs.declared.block.CachedBlock.{CachedBlock}
 use Rattle.cached_blocks.specs.Cached.{cached_blocks}
 use Rattle.project_check.specs.Loaded.{program_of, sheet_at}

@@ -6,10 +6,10 @@ use Rattle.scratch_values.specs.Casts.{number, truth}
 use Rattle.scratch_values.specs.Value.{text_of}
 use Rattle.scratch_values.specs.declared.value.Value.{Value}
 use Rattle.scratch_values.specs.declared.value.Value.TheVariants.{Number, Truth}
-use Rattle.script_machine.specs.Outcome.{Outcome, then_do}
-use Rattle.script_machine.specs.Texts.{text_value}
-use Rattle.script_machine.specs.Words.{Words, Drawn, undrawn, made_of}
-use Rattle.project_file.specs.declared.blocks.Operand.{Operand}
+use Rattle.machine_spec.specs.Outcome.{Outcome, then_do}
+use Rattle.machine_spec.specs.Texts.{text_value}
+use Rattle.machine_spec.specs.Words.{Words, Drawn, undrawn, made_of}
+use Rattle.project_spec.specs.declared.blocks.Operand.{Operand}
 use Rattle.evaluate.specs.declared.view.View.{View}
 use Rattle.evaluate.specs.declared.ways.Arithmetic.{Arithmetic}
 use Rattle.evaluate.specs.declared.ways.Comparison.{Comparison}

@@ -8,8 +8,8 @@ use Rattle.scratch_number.specs.declared.number.Num.{Num}
 use Rattle.scratch_number.specs.Arithmetic.{add, sub, mul, div, modulo}
 use Rattle.scratch_values.specs.declared.value.Value.{Value}
 use Rattle.scratch_values.specs.Comparison.{compare}
-use Rattle.script_machine.specs.Reporters.{is_equal}
-use Rattle.project_file.specs.declared.blocks.Operand.{Operand}
+use Rattle.machine_spec.specs.Reporters.{is_equal}
+use Rattle.project_spec.specs.declared.blocks.Operand.{Operand}
 use Rattle.cached_blocks.specs.declared.block.CachedBlock.{CachedBlock}
 use Rattle.cached_blocks.specs.Cached.{same_names}
 use Rattle.evaluate.specs.declared.ways.Arithmetic.{Arithmetic}

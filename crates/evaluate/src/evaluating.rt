@@ -3,12 +3,12 @@
 ghost use Rattle.std.specs.Prelude.{◌≡◌, ◌<◌, length, IfOk, IfErr, Some};
 ghost use Rattle.cached_blocks.specs.Told.{IsReporter};
 ghost use Rattle.project_check.specs.Loaded.{tables_of, blocks_at};
-ghost use Rattle.project_file.specs.Trees.{script};
+ghost use Rattle.project_spec.specs.Trees.{script};
 ghost use Rattle.scratch_values.specs.Held.{held};
-ghost use Rattle.script_machine.specs.Evaluate.{evaluated};
-ghost use Rattle.script_machine.specs.Outcome.{Goes, StopIs};
-ghost use Rattle.script_machine.specs.Script.{Statement, Script, Then};
-ghost use Rattle.script_machine.specs.Words.{seen_words};
+ghost use Rattle.machine_spec.specs.Evaluate.{evaluated};
+ghost use Rattle.machine_spec.specs.Outcome.{Goes, StopIs};
+ghost use Rattle.machine_spec.specs.Script.{Statement, Script, Then};
+ghost use Rattle.machine_spec.specs.Words.{seen_words};
 ghost use Rattle.evaluate.specs.Plugged.{IsPluggedIn};
 ghost use Rattle.evaluate.specs.Seen.{seen, sheet_of, operand_value, reporter_value, arguments_at};
 ghost use Rattle.evaluate.specs.Short as short;
@@ -20,12 +20,12 @@ use crate::operating::{counted, held_compared, held_joined, number_in, truth_in}
 use crate::view::{View, sight};
 use crate::ways::{Arithmetic, Comparison, Connective, Way, calculated, connected};
 use cached_blocks::{a_script_is_told, an_expression_is_told};
-use project_file::Operand;
+use machine_spec::BlockId;
 use project_json::Text;
+use project_spec::Operand;
 use reporters::{contents, reported, variable};
 use scratch_number::{Num, round};
 use scratch_values::{Arg, Args, Held, Value, to_number, to_truth};
-use script_machine::BlockId;
 use script_words::{Counted, Rng, Stop};
 use std::alloc::Global;
 

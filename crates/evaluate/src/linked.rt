@@ -4,7 +4,7 @@ ghost use Rattle.std.specs.Prelude.{◌≡◌, ◌<◌, length, slice_get, Some}
 ghost use Rattle.cached_blocks.specs.Cached.{cached_blocks};
 ghost use Rattle.cached_blocks.specs.Told.{IsReporter};
 ghost use Rattle.project_check.specs.Loaded.{tables_of, blocks_at};
-ghost use Rattle.script_machine.specs.Words.{Words};
+ghost use Rattle.machine_spec.specs.Words.{Words};
 ghost use Rattle.evaluate.specs.Plugged.{ArePluggedIn};
 ghost use Rattle.evaluate.specs.Seen.{sheet_of, reporter_value};
 ghost use Rattle.evaluate.specs.Short.{IsWayPlugged, by_way};
@@ -13,7 +13,7 @@ ghost use Rattle.evaluate.specs.Ways.{HasOrder};
 use crate::view::View;
 use crate::ways::{Way, way_of};
 use cached_blocks::{CachedBlock, an_expression_is_told, links_fall};
-use script_machine::BlockId;
+use machine_spec::BlockId;
 
 // A block of the target. Reporters in its inputs have smaller ranks.
 #[inline(always)]

@@ -5,8 +5,8 @@ ghost use Rattle.scratch_values.specs.Casts as casts;
 ghost use Rattle.scratch_values.specs.declared.value.Value.TheVariants as values;
 ghost use Rattle.scratch_values.specs.Held.{held};
 ghost use Rattle.scratch_values.specs.Value.{text_of};
-ghost use Rattle.script_machine.specs.Outcome.{Goes, StopIs};
-ghost use Rattle.script_machine.specs.Texts.{text_value};
+ghost use Rattle.machine_spec.specs.Outcome.{Goes, StopIs};
+ghost use Rattle.machine_spec.specs.Texts.{text_value};
 ghost use Rattle.evaluate.specs.Ways as ways;
 
 use crate::ways::{Comparison, compared};

@@ -2,13 +2,13 @@
 
 ghost use Rattle.std.specs.Prelude.{◌≡◌, ◌<◌, [], ◌∷◌, length, IfOk, IfErr, Some};
 ghost use Rattle.project_check.specs.Loaded.{tables_of, blocks_at};
-ghost use Rattle.project_file.specs.Trees.{script};
+ghost use Rattle.project_spec.specs.Trees.{script};
 ghost use Rattle.scratch_values.specs.Args.{arguments as arguments_of};
 ghost use Rattle.scratch_values.specs.Held.{pair_of};
-ghost use Rattle.script_machine.specs.Evaluate.{evaluated};
-ghost use Rattle.script_machine.specs.Outcome.{Goes, StopIs};
-ghost use Rattle.script_machine.specs.Script.{Statement, Script, Then};
-ghost use Rattle.script_machine.specs.Words.{Words, seen_words};
+ghost use Rattle.machine_spec.specs.Evaluate.{evaluated};
+ghost use Rattle.machine_spec.specs.Outcome.{Goes, StopIs};
+ghost use Rattle.machine_spec.specs.Script.{Statement, Script, Then};
+ghost use Rattle.machine_spec.specs.Words.{Words, seen_words};
 ghost use Rattle.evaluate.specs.Seen.{seen, sheet_of, arguments_at, fields_at, inputs_at};
 ghost use Rattle.evaluate.specs.Stops.{IsOfValuesOrMemory};
 
@@ -16,8 +16,8 @@ use crate::evaluating::argument;
 use crate::linked::linked;
 use crate::view::View;
 use cached_blocks::a_script_is_told;
+use machine_spec::BlockId;
 use scratch_values::{Arg, Args};
-use script_machine::BlockId;
 use script_words::{Counted, Rng, Stop};
 use std::alloc::Global;
 

@@ -5,10 +5,10 @@ ghost use Rattle.reporters.specs.Sight as reporters;
 ghost use Rattle.evaluate.specs.Seen.{seen};
 
 use devices::Devices;
+use machine_spec::{InstanceId, TargetId};
 use project_check::Project;
 use reporters::Sight;
 use scratch_values::Params;
-use script_machine::{InstanceId, TargetId};
 use targets::Targets;
 use variables::Variables;
 

@@ -6,7 +6,7 @@ ghost use Rattle.evaluate.specs.Ways.{HasOrder, IsWay, IsWayOfOne, IsWayOfTwo, c
 use cached_blocks::CachedBlock;
 use opcode_table::Opcode;
 use operators::is_equal;
-use project_file::Operand;
+use project_spec::Operand;
 use scratch_number::{Num, add, div, modulo, mul, sub};
 use scratch_values::{Value, compare};
 use std::alloc::{AllocError, Global};

@@ -1,13 +1,13 @@
 -- A runner that moves is the thread of the list that moves, with its levels apart.
 use Rattle.std.proofs.Common.{◌≡◌, ℕ, ◌+◌, ◌≤◌, Bool, true, false, List, [], ◌++◌, length, Some, refl, sym, ap, ◌∙◌, subst, arith}
-use Rattle.script_machine.specs.Script.{Statement}
-use Rattle.script_machine.specs.declared.threads.Report.{Report}
-use Rattle.script_machine.specs.Outcome.{most_levels}
-use Rattle.script_machine.specs.Pending.{Item, Position, dos}
-use Rattle.script_machine.specs.Places.{Places, at_place, put, place, on_place}
-use Rattle.script_machine.specs.Starting.{open_levels}
-use Rattle.script_machine.specs.Tasks.{status_after}
-use Rattle.project_file.specs.Trees.{Sheet}
+use Rattle.machine_spec.specs.Script.{Statement}
+use Rattle.machine_spec.specs.declared.threads.Report.{Report}
+use Rattle.machine_spec.specs.Outcome.{most_levels}
+use Rattle.machine_spec.specs.Pending.{Item, Position, dos}
+use Rattle.machine_spec.specs.Places.{Places, at_place, put, place, on_place}
+use Rattle.machine_spec.specs.Starting.{open_levels}
+use Rattle.machine_spec.specs.Tasks.{status_after}
+use Rattle.project_spec.specs.Trees.{Sheet}
 use Rattle.thread_frames.specs.declared.level.Level.{Level}
 use Rattle.thread_frames.specs.Levels.{without_top, warp_flag, top_block}
 use Rattle.thread_frames.specs.Reading.{beneath}

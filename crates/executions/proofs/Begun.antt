@@ -3,14 +3,14 @@ use Rattle.std.proofs.Common.{◌≡◌, ℕ, ◌<◌, ◌^◌, false, List, [],
 use Rattle.std.specs.Prelude.{All, IfSome}
 use Rattle.rand_core.specs.Stream.{Stream}
 use Rattle.script_words.specs.declared.stops.Stop.{Stop}
-use Rattle.script_machine.specs.Line as line
-use Rattle.script_machine.specs.Outcome.{Outcome, Goes, then_do, IfGoes, StopIs}
-use Rattle.script_machine.specs.Places.{Places, running, Everyone}
-use Rattle.script_machine.specs.Starting.{Pair, Crowd, starts, start_all}
-use Rattle.script_machine.specs.Tasks.{tasks, begun, begin, begin_pairs}
-use Rattle.script_machine.specs.Threads.{is_done}
-use Rattle.script_machine.specs.declared.instance.Instance.{Instance}
-use Rattle.script_machine.specs.declared.threads.Filter.{Filter}
+use Rattle.machine_spec.specs.Line as line
+use Rattle.machine_spec.specs.Outcome.{Outcome, Goes, then_do, IfGoes, StopIs}
+use Rattle.machine_spec.specs.Places.{Places, running, Everyone}
+use Rattle.machine_spec.specs.Starting.{Pair, Crowd, starts, start_all}
+use Rattle.machine_spec.specs.Tasks.{tasks, begun, begin, begin_pairs}
+use Rattle.machine_spec.specs.Threads.{is_done}
+use Rattle.machine_spec.specs.declared.instance.Instance.{Instance}
+use Rattle.machine_spec.specs.declared.threads.Filter.{Filter}
 use Rattle.project_check.specs.declared.project.Project.{Project}
 use Rattle.project_check.specs.Loaded.{program_of}
 use Rattle.thread_frames.specs.Fit.{Fits}

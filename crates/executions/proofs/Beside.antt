@@ -7,32 +7,32 @@ use Rattle.rand_core.specs.Stream.{Stream}
 use Rattle.script_words.specs.declared.stops.Stop.{Stop}
 use Rattle.opcode_table.specs.declared.kinds.Kind.{Kind}
 use Rattle.opcode_table.specs.declared.kinds.Kind.TheVariants.{Choice, Endless, Counted, Calls, Waits, Glides, Starts, Asks, Speaks, Plain}
-use Rattle.script_machine.specs.Keeping.{is_starts, may_wait, top_fits}
-use Rattle.script_machine.specs.Lists.{first_removed}
-use Rattle.script_machine.specs.Outcome.{Outcome, Goes, then_do, StopIs}
-use Rattle.script_machine.specs.Script.{Script, Then, Statement}
-use Rattle.script_machine.specs.Stores.{Devices, Variables}
-use Rattle.script_machine.specs.declared.variables.Store.{Store}
-use Rattle.script_machine.specs.declared.instance.Instance.{Instance}
-use Rattle.script_machine.specs.declared.threads.Context.TheVariants.{Fresh, Started}
-use Rattle.script_machine.specs.declared.threads.Control.{Control}
-use Rattle.script_machine.specs.declared.threads.Control.TheVariants as control
-use Rattle.script_machine.specs.declared.threads.Filter.{Filter}
-use Rattle.script_machine.specs.declared.threads.Report.{Report}
-use Rattle.script_machine.specs.declared.threads.Report.TheVariants.{Yielded, Ended}
-use Rattle.script_machine.specs.declared.threads.Which.{Which}
-use Rattle.script_machine.specs.Pending.{Item, Position, dos, settle, gone, kept}
-use Rattle.script_machine.specs.Places.{Places, at_place, put, put_some, on_place, place, running, on_running, Everyone}
-use Rattle.script_machine.specs.Starting.{start_all, finished_of}
-use Rattle.script_machine.specs.Step.{Moment, moved, act, others_stopped, after_start, clone_deleted, deleted_if}
-use Rattle.script_machine.specs.Stopping.{scene_of, with_scene, questions_dropped, disposed, without_timers, is_clone}
-use Rattle.script_machine.specs.Tasks.{Task, tasks, at_position, begin}
-use Rattle.script_machine.specs.World.{World}
-use Rattle.project_file.specs.Trees.{Sheet, target_of_link, script, statement}
-use Rattle.project_file.proofs.Unrolling.{script-at}
+use Rattle.machine_spec.specs.Keeping.{is_starts, may_wait, top_fits}
+use Rattle.machine_spec.specs.Lists.{first_removed}
+use Rattle.machine_spec.specs.Outcome.{Outcome, Goes, then_do, StopIs}
+use Rattle.machine_spec.specs.Script.{Script, Then, Statement}
+use Rattle.machine_spec.specs.Stores.{Devices, Variables}
+use Rattle.machine_spec.specs.declared.variables.Store.{Store}
+use Rattle.machine_spec.specs.declared.instance.Instance.{Instance}
+use Rattle.machine_spec.specs.declared.threads.Context.TheVariants.{Fresh, Started}
+use Rattle.machine_spec.specs.declared.threads.Control.{Control}
+use Rattle.machine_spec.specs.declared.threads.Control.TheVariants as control
+use Rattle.machine_spec.specs.declared.threads.Filter.{Filter}
+use Rattle.machine_spec.specs.declared.threads.Report.{Report}
+use Rattle.machine_spec.specs.declared.threads.Report.TheVariants.{Yielded, Ended}
+use Rattle.machine_spec.specs.declared.threads.Which.{Which}
+use Rattle.machine_spec.specs.Pending.{Item, Position, dos, settle, gone, kept}
+use Rattle.machine_spec.specs.Places.{Places, at_place, put, put_some, on_place, place, running, on_running, Everyone}
+use Rattle.machine_spec.specs.Starting.{start_all, finished_of}
+use Rattle.machine_spec.specs.Step.{Moment, moved, act, others_stopped, after_start, clone_deleted, deleted_if}
+use Rattle.machine_spec.specs.Stopping.{scene_of, with_scene, questions_dropped, disposed, without_timers, is_clone}
+use Rattle.machine_spec.specs.Tasks.{Task, tasks, at_position, begin}
+use Rattle.machine_spec.specs.World.{World}
+use Rattle.project_spec.specs.Trees.{Sheet, target_of_link, script, statement}
+use Rattle.project_spec.proofs.Unrolling.{script-at}
 use Rattle.project_check.specs.declared.project.Project.{Project}
 use Rattle.project_check.specs.Loaded.{program_of, tables_of, ranks_at}
-use Rattle.scenes.specs.Scenes.{scene_in}
+use Rattle.speech_bubbles.specs.Scenes.{scene_in}
 use Rattle.targets.specs.Live.{IsLive, IsSameCast}
 use Rattle.thread_frames.specs.Levels.{top_block, without_top, warp_flag}
 use Rattle.thread_frames.specs.Reading.{beneath, task}

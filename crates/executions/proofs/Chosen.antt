@@ -11,19 +11,19 @@ use Rattle.scratch_values.specs.Named.{Arguments}
 use Rattle.script_words.specs.declared.stops.CounterKind.{CounterKind}
 use Rattle.script_words.specs.declared.stops.Stop.{Stop}
 use Rattle.script_words.specs.declared.stops.Stop.TheVariants as stops
-use Rattle.script_machine.specs.Keeping.{has_branches, under_fits}
-use Rattle.script_machine.specs.Laws.{is_own}
-use Rattle.script_machine.specs.ControlRows.{branch_if}
-use Rattle.script_machine.specs.Outcome.{Outcome, Goes, Full, TooLong, Spent, StopIs, most_levels, with_room}
-use Rattle.script_machine.specs.Script.{Command}
-use Rattle.script_machine.specs.Step.{Applied, row}
-use Rattle.script_machine.specs.View.{truth_at}
-use Rattle.script_machine.specs.declared.threads.Context.{Context}
-use Rattle.script_machine.specs.declared.threads.Context.TheVariants.{Fresh, Started}
-use Rattle.script_machine.specs.declared.threads.Control.{Control}
-use Rattle.script_machine.specs.declared.threads.Control.TheVariants.{Branch}
-use Rattle.script_machine.specs.Places.{Places}
-use Rattle.script_machine.specs.Tasks.{Task}
+use Rattle.machine_spec.specs.Keeping.{has_branches, under_fits}
+use Rattle.machine_spec.specs.Laws.{is_own}
+use Rattle.machine_spec.specs.ControlRows.{branch_if}
+use Rattle.machine_spec.specs.Outcome.{Outcome, Goes, Full, TooLong, Spent, StopIs, most_levels, with_room}
+use Rattle.machine_spec.specs.Script.{Command}
+use Rattle.machine_spec.specs.Step.{Applied, row}
+use Rattle.machine_spec.specs.View.{truth_at}
+use Rattle.machine_spec.specs.declared.threads.Context.{Context}
+use Rattle.machine_spec.specs.declared.threads.Context.TheVariants.{Fresh, Started}
+use Rattle.machine_spec.specs.declared.threads.Control.{Control}
+use Rattle.machine_spec.specs.declared.threads.Control.TheVariants.{Branch}
+use Rattle.machine_spec.specs.Places.{Places}
+use Rattle.machine_spec.specs.Tasks.{Task}
 use Rattle.project_check.specs.declared.project.Project.{Project}
 use Rattle.project_check.specs.Loaded.{program_of}
 use Rattle.cached_blocks.specs.declared.block.CachedBlock.{CachedBlock}

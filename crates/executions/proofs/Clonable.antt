@@ -8,18 +8,18 @@ use Rattle.opcode_table.specs.declared.opcode.Opcode.{Opcode}
 use Rattle.opcode_table.specs.declared.opcode.Opcode.TheVariants.{ControlStop, ControlCreateCloneOf, ControlDeleteThisClone, EventBroadcast, EventBroadcastAndWait}
 use Rattle.scratch_values.specs.Named.{Arguments}
 use Rattle.control_blocks.specs.Afresh.{acts_alone}
-use Rattle.script_machine.specs.Outcome.{Goes}
-use Rattle.script_machine.specs.Program.{Program, no_target, sprite_named}
-use Rattle.script_machine.specs.declared.records.TargetRecord.{TargetRecord}
-use Rattle.script_machine.specs.Threads.{Listed, is_running, among, wait_for}
-use Rattle.script_machine.specs.declared.threads.Context.{Context}
-use Rattle.script_machine.specs.declared.threads.Context.TheVariants.{Fresh, Repeat, Wait, Glide, Started, Asked, Spoken, Called}
-use Rattle.script_machine.specs.declared.threads.Control.{Control}
-use Rattle.script_machine.specs.declared.threads.Control.TheVariants.{Next, Branch, Yield, YieldTick, Promise, Call, StopThis, StopOthers, StopAll, DeleteClone, Start, Clone}
-use Rattle.script_machine.specs.ControlRows.{control_row, broadcast_and_wait, clone_control, clone_some, stop_control}
-use Rattle.script_machine.specs.Laws.{is_own}
-use Rattle.script_machine.specs.Parts.{Scene}
-use Rattle.script_machine.specs.View.{Row, field_at, text_at}
+use Rattle.machine_spec.specs.Outcome.{Goes}
+use Rattle.machine_spec.specs.Program.{Program, no_target, sprite_named}
+use Rattle.machine_spec.specs.declared.records.TargetRecord.{TargetRecord}
+use Rattle.machine_spec.specs.Threads.{Listed, is_running, among, wait_for}
+use Rattle.machine_spec.specs.declared.threads.Context.{Context}
+use Rattle.machine_spec.specs.declared.threads.Context.TheVariants.{Fresh, Repeat, Wait, Glide, Started, Asked, Spoken, Called}
+use Rattle.machine_spec.specs.declared.threads.Control.{Control}
+use Rattle.machine_spec.specs.declared.threads.Control.TheVariants.{Next, Branch, Yield, YieldTick, Promise, Call, StopThis, StopOthers, StopAll, DeleteClone, Start, Clone}
+use Rattle.machine_spec.specs.ControlRows.{control_row, broadcast_and_wait, clone_control, clone_some, stop_control}
+use Rattle.machine_spec.specs.Laws.{is_own}
+use Rattle.machine_spec.specs.Parts.{Scene}
+use Rattle.machine_spec.specs.View.{Row, field_at, text_at}
 use Rattle.targets.proofs.Places.{position_is}
 use Rattle.looks_blocks.specs.Controls.{is_own_or_start}
 use Rattle.executions.specs.Rows.{may_clone}

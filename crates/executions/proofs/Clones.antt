@@ -4,19 +4,19 @@ use Rattle.std.specs.Prelude.{◌==◌, if◌then◌else◌}
 use Rattle.rand_core.specs.Stream.{Stream}
 use Rattle.script_words.specs.declared.stops.CounterKind.TheVariants as counter
 use Rattle.script_words.specs.declared.stops.Stop.{Stop}
-use Rattle.script_machine.specs.Outcome.{Outcome, Goes, Spent, then_do, StopIs, last_number}
-use Rattle.script_machine.specs.Stores.{instance_at, store_at}
-use Rattle.script_machine.specs.declared.instance.Instance.{Instance}
-use Rattle.script_machine.specs.declared.threads.Control.TheVariants as control
-use Rattle.script_machine.specs.declared.threads.Filter.TheVariants.{CloneStart}
-use Rattle.script_machine.specs.declared.threads.Report.{Report}
-use Rattle.script_machine.specs.declared.threads.Which.{Which}
-use Rattle.script_machine.specs.Pending.{settle}
-use Rattle.script_machine.specs.Places.{Places, place, running, Everyone}
-use Rattle.script_machine.specs.Starting.{start_all}
-use Rattle.script_machine.specs.Step.{moved, cloned, cloned_unless}
-use Rattle.script_machine.specs.Stopping.{copied, clone_added, placed_behind, has_no_room}
-use Rattle.script_machine.specs.Tasks.{begin}
+use Rattle.machine_spec.specs.Outcome.{Outcome, Goes, Spent, then_do, StopIs, last_number}
+use Rattle.machine_spec.specs.Stores.{instance_at, store_at}
+use Rattle.machine_spec.specs.declared.instance.Instance.{Instance}
+use Rattle.machine_spec.specs.declared.threads.Control.TheVariants as control
+use Rattle.machine_spec.specs.declared.threads.Filter.TheVariants.{CloneStart}
+use Rattle.machine_spec.specs.declared.threads.Report.{Report}
+use Rattle.machine_spec.specs.declared.threads.Which.{Which}
+use Rattle.machine_spec.specs.Pending.{settle}
+use Rattle.machine_spec.specs.Places.{Places, place, running, Everyone}
+use Rattle.machine_spec.specs.Starting.{start_all}
+use Rattle.machine_spec.specs.Step.{moved, cloned, cloned_unless}
+use Rattle.machine_spec.specs.Stopping.{copied, clone_added, placed_behind, has_no_room}
+use Rattle.machine_spec.specs.Tasks.{begin}
 use Rattle.project_check.specs.declared.project.Project.{Project}
 use Rattle.project_check.specs.Loaded.{program_of, tables_of}
 use Rattle.targets.specs.Live.{IsLive}

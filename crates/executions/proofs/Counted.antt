@@ -4,14 +4,14 @@ use Rattle.std.specs.Prelude.{slice_get, sum_by, option_map, IfSome, ifâ—Œthenâ—
 use Rattle.std.specs.List.{All}
 use Rattle.std.proofs.lemmas.List.Elements.{All-head, All-tail}
 use Rattle.std.proofs.lemmas.List.Sums.{sum_by-cons}
-use Rattle.script_machine.specs.Script.{Script, End, Then}
-use Rattle.script_machine.specs.Threads.{is_done}
-use Rattle.script_machine.specs.Pending.{Item, dos, markers}
-use Rattle.script_machine.specs.Places.{Places, sum_some}
-use Rattle.script_machine.specs.Starting.{open_levels}
-use Rattle.script_machine.specs.Tasks.{depth, tasks}
-use Rattle.project_file.specs.declared.blocks.Block.{Block}
-use Rattle.project_file.specs.Trees.{Sheet, target_of_link, script, statement}
+use Rattle.machine_spec.specs.Script.{Script, End, Then}
+use Rattle.machine_spec.specs.Threads.{is_done}
+use Rattle.machine_spec.specs.Pending.{Item, dos, markers}
+use Rattle.machine_spec.specs.Places.{Places, sum_some}
+use Rattle.machine_spec.specs.Starting.{open_levels}
+use Rattle.machine_spec.specs.Tasks.{depth, tasks}
+use Rattle.project_spec.specs.declared.blocks.Block.{Block}
+use Rattle.project_spec.specs.Trees.{Sheet, target_of_link, script, statement}
 use Rattle.thread_frames.specs.declared.level.Level.{Level}
 use Rattle.thread_frames.specs.Reading.{params_in, first_item, marker, block_items, items_at, beneath, pending, task}
 use Rattle.thread_frames.specs.Threads.{Thread, frames}

@@ -9,12 +9,12 @@ use Rattle.std.proofs.lemmas.List.Folds.{find-append}
 use Rattle.std.proofs.lemmas.List.Quantifiers.{position-Some}
 use Rattle.std.proofs.lemmas.List.Sums.{sum_by-cons, sum_by_push, sum_by-remove, sum_by-insert}
 use Rattle.std.proofs.lemmas.Option.{same_Some}
-use Rattle.script_machine.specs.declared.instance.Instance.{Instance}
-use Rattle.script_machine.specs.declared.records.TargetRecord.{TargetRecord}
-use Rattle.script_machine.specs.First.{original, layered, in_order}
-use Rattle.script_machine.specs.Lists.{first_removed, removed_at}
-use Rattle.script_machine.specs.Stopping.{cleared, copied, placed_behind}
-use Rattle.script_machine.specs.Stores.{live, instance_at, no_instance, less}
+use Rattle.machine_spec.specs.declared.instance.Instance.{Instance}
+use Rattle.machine_spec.specs.declared.records.TargetRecord.{TargetRecord}
+use Rattle.machine_spec.specs.First.{original, layered, in_order}
+use Rattle.machine_spec.specs.Lists.{first_removed, removed_at}
+use Rattle.machine_spec.specs.Stopping.{cleared, copied, placed_behind}
+use Rattle.machine_spec.specs.Stores.{live, instance_at, no_instance, less}
 use Rattle.looks_blocks.specs.Live.{HasOneEach}
 use Rattle.targets.specs.First.{first_instances}
 use Rattle.targets.specs.Live.{IsLive, IsSameCast, target_of, numbers}

@@ -3,10 +3,10 @@ use Rattle.std.proofs.Common.{◌≡◌, ℕ, zero, suc, ◌<◌, List, [], ◌�
 use Rattle.std.specs.Prelude.{slice_get, unwrap_or, position, All}
 use Rattle.std.specs.Option.{option_map}
 use Rattle.std.proofs.lemmas.List.Elements.{All-head, All-tail}
-use Rattle.script_machine.specs.Program.{no_target, stage_number}
-use Rattle.script_machine.specs.Stores.{live, no_instance, instance_at}
-use Rattle.script_machine.specs.declared.instance.Instance.{Instance}
-use Rattle.script_machine.specs.declared.records.TargetRecord.{TargetRecord}
+use Rattle.machine_spec.specs.Program.{no_target, stage_number}
+use Rattle.machine_spec.specs.Stores.{live, no_instance, instance_at}
+use Rattle.machine_spec.specs.declared.instance.Instance.{Instance}
+use Rattle.machine_spec.specs.declared.records.TargetRecord.{TargetRecord}
 use Rattle.project_check.specs.declared.project.Project.{Project}
 use Rattle.project_check.specs.Loaded.{program_of}
 use Rattle.targets.specs.Live.{IsLive}

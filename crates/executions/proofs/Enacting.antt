@@ -7,34 +7,34 @@ use Rattle.rand_core.specs.Stream.{Stream}
 use Rattle.script_words.specs.declared.counting.Counted.{Counted}
 use Rattle.script_words.specs.declared.stops.Stop.{Stop}
 use Rattle.scratch_values.specs.Named.{Arguments}
-use Rattle.script_machine.specs.Outcome.{Outcome, Goes, most_levels, StopIs}
-use Rattle.script_machine.specs.Script.{Script, Then, Statement, command_of}
-use Rattle.script_machine.specs.declared.threads.Context.{Context}
-use Rattle.script_machine.specs.declared.threads.Context.TheVariants.{Fresh, Repeat, Wait, Glide, Started, Asked, Spoken, Called}
-use Rattle.script_machine.specs.declared.threads.Control.{Control}
-use Rattle.script_machine.specs.declared.threads.Control.TheVariants.{Clone}
-use Rattle.script_machine.specs.declared.threads.Report.{Report}
-use Rattle.script_machine.specs.declared.threads.Which.{Which}
+use Rattle.machine_spec.specs.Outcome.{Outcome, Goes, most_levels, StopIs}
+use Rattle.machine_spec.specs.Script.{Script, Then, Statement, command_of}
+use Rattle.machine_spec.specs.declared.threads.Context.{Context}
+use Rattle.machine_spec.specs.declared.threads.Context.TheVariants.{Fresh, Repeat, Wait, Glide, Started, Asked, Spoken, Called}
+use Rattle.machine_spec.specs.declared.threads.Control.{Control}
+use Rattle.machine_spec.specs.declared.threads.Control.TheVariants.{Clone}
+use Rattle.machine_spec.specs.declared.threads.Report.{Report}
+use Rattle.machine_spec.specs.declared.threads.Which.{Which}
 use Rattle.opcode_table.specs.declared.kinds.Kind.{Kind}
 use Rattle.opcode_table.specs.declared.kinds.Kind.TheVariants.{Counted as CountedKind, Calls, Waits, Glides, Starts, Asks, Speaks}
 use Rattle.opcode_table.specs.Kinds.{kind}
 use Rattle.control_blocks.specs.Afresh.{was_afresh}
-use Rattle.script_machine.specs.Keeping.{top_fits}
-use Rattle.script_machine.specs.Evaluate.{evaluated}
-use Rattle.script_machine.specs.Threads.{Params}
-use Rattle.script_machine.specs.View.{View}
-use Rattle.script_machine.specs.Words.{Drawn, seen_words}
-use Rattle.script_machine.specs.Laws.{is_own}
-use Rattle.script_machine.specs.Pending.{Item, dos}
-use Rattle.script_machine.specs.Places.{Places, at_place, put, place, running, on_place}
-use Rattle.script_machine.specs.Starting.{open_levels}
-use Rattle.script_machine.specs.Step.{Moment, position, opens_level, row, act, step}
-use Rattle.script_machine.specs.Tasks.{Task}
-use Rattle.script_machine.specs.World.{World}
-use Rattle.project_file.specs.Linked.{IsClosed, AreRanks}
-use Rattle.project_file.specs.declared.blocks.Block.{Block}
-use Rattle.project_file.specs.Trees.{Sheet, script}
-use Rattle.project_file.proofs.Unrolling.{held_at}
+use Rattle.machine_spec.specs.Keeping.{top_fits}
+use Rattle.machine_spec.specs.Evaluate.{evaluated}
+use Rattle.machine_spec.specs.Threads.{Params}
+use Rattle.machine_spec.specs.View.{View}
+use Rattle.machine_spec.specs.Words.{Drawn, seen_words}
+use Rattle.machine_spec.specs.Laws.{is_own}
+use Rattle.machine_spec.specs.Pending.{Item, dos}
+use Rattle.machine_spec.specs.Places.{Places, at_place, put, place, running, on_place}
+use Rattle.machine_spec.specs.Starting.{open_levels}
+use Rattle.machine_spec.specs.Step.{Moment, position, opens_level, row, act, step}
+use Rattle.machine_spec.specs.Tasks.{Task}
+use Rattle.machine_spec.specs.World.{World}
+use Rattle.project_spec.specs.Linked.{IsClosed, AreRanks}
+use Rattle.project_spec.specs.declared.blocks.Block.{Block}
+use Rattle.project_spec.specs.Trees.{Sheet, script}
+use Rattle.project_spec.proofs.Unrolling.{held_at}
 use Rattle.project_check.specs.declared.project.Project.{Project}
 use Rattle.project_check.specs.Loaded.{program_of, blocks_at, ranks_at}
 use Rattle.cached_blocks.specs.declared.block.CachedBlock.{CachedBlock}

@@ -2,18 +2,18 @@
 use Rattle.std.proofs.Common.{◌≡◌, ℕ, Bool, true, false, List, [], ◌∷◌, ◌++◌, Option, Some, None, refl, sym, ap, ◌∙◌}
 use Rattle.std.specs.Prelude.{is_some, unwrap_or}
 use Rattle.opcode_table.specs.declared.kinds.Kind.{Kind}
-use Rattle.script_machine.specs.Script.{Script, End, Then, Statement}
-use Rattle.script_machine.specs.Program.{Program}
-use Rattle.script_machine.specs.Threads.{Params}
-use Rattle.script_machine.specs.declared.threads.Context.{Context}
-use Rattle.script_machine.specs.declared.threads.Context.TheVariants.{Fresh, Repeat, Wait, Glide, Started, Asked, Spoken, Called}
-use Rattle.script_machine.specs.Keeping.{is_called, top_fits}
-use Rattle.script_machine.specs.Pending.{Item, dos, params_in}
-use Rattle.script_machine.specs.Step.{execute, execute_first}
-use Rattle.script_machine.specs.Tasks.{Task}
-use Rattle.script_machine.specs.World.{World}
-use Rattle.project_file.specs.declared.blocks.Block.{Block}
-use Rattle.project_file.specs.Trees.{Sheet, target_of_link, script, statement}
+use Rattle.machine_spec.specs.Script.{Script, End, Then, Statement}
+use Rattle.machine_spec.specs.Program.{Program}
+use Rattle.machine_spec.specs.Threads.{Params}
+use Rattle.machine_spec.specs.declared.threads.Context.{Context}
+use Rattle.machine_spec.specs.declared.threads.Context.TheVariants.{Fresh, Repeat, Wait, Glide, Started, Asked, Spoken, Called}
+use Rattle.machine_spec.specs.Keeping.{is_called, top_fits}
+use Rattle.machine_spec.specs.Pending.{Item, dos, params_in}
+use Rattle.machine_spec.specs.Step.{execute, execute_first}
+use Rattle.machine_spec.specs.Tasks.{Task}
+use Rattle.machine_spec.specs.World.{World}
+use Rattle.project_spec.specs.declared.blocks.Block.{Block}
+use Rattle.project_spec.specs.Trees.{Sheet, target_of_link, script, statement}
 use Rattle.thread_frames.specs.declared.level.Level.{Level}
 use Rattle.thread_frames.specs.Levels.{params_or, near_params}
 use Rattle.thread_frames.specs.Reading.{params_in as level_params, first_by, marker, beneath}

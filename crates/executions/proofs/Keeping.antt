@@ -2,9 +2,9 @@
 use Rattle.std.proofs.Common.{◌≡◌, ◌<◌, ◌^◌, false, Some, sym, ap, ◌∙◌, subst, arith}
 use Rattle.std.specs.Prelude.{All}
 use Rattle.std.proofs.lemmas.List.Elements.{All-nil}
-use Rattle.script_machine.specs.Threads.{is_done}
-use Rattle.script_machine.specs.declared.threads.Which.{Which}
-use Rattle.script_machine.specs.Places.{Places, at_place, put, Everyone}
+use Rattle.machine_spec.specs.Threads.{is_done}
+use Rattle.machine_spec.specs.declared.threads.Which.{Which}
+use Rattle.machine_spec.specs.Places.{Places, at_place, put, Everyone}
 use Rattle.project_check.specs.declared.project.Project.{Project}
 use Rattle.targets.specs.Live.{IsLive, IsSameCast}
 use Rattle.variables.specs.Held.{HasNoStore}

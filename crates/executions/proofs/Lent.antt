@@ -1,11 +1,11 @@
 -- The levels of a thread were taken, moved and put back.
 use Rattle.std.proofs.Common.{◌≡◌, ℕ, ◌+◌, ◌≤◌, Bool, List, [], ◌++◌, length, sym, ap, ◌∙◌, subst, arith}
-use Rattle.script_machine.specs.Script.{Statement}
-use Rattle.script_machine.specs.declared.threads.Which.{Which}
-use Rattle.script_machine.specs.declared.threads.Report.{Report}
-use Rattle.script_machine.specs.Outcome.{most_levels}
-use Rattle.script_machine.specs.Pending.{Item, Position, dos}
-use Rattle.script_machine.specs.Places.{Places, at_place, put, on_place}
+use Rattle.machine_spec.specs.Script.{Statement}
+use Rattle.machine_spec.specs.declared.threads.Which.{Which}
+use Rattle.machine_spec.specs.declared.threads.Report.{Report}
+use Rattle.machine_spec.specs.Outcome.{most_levels}
+use Rattle.machine_spec.specs.Pending.{Item, Position, dos}
+use Rattle.machine_spec.specs.Places.{Places, at_place, put, on_place}
 use Rattle.thread_frames.specs.declared.level.Level.{Level}
 use Rattle.thread_frames.specs.Levels.{without_top, warp_flag}
 use Rattle.thread_frames.specs.Reading.{beneath}

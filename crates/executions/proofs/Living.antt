@@ -4,12 +4,12 @@ use Rattle.std.specs.Prelude.{◌==◌, slice_get, IfSome, Contains, if◌then�
 use Rattle.std.specs.List.{All}
 use Rattle.std.proofs.lemmas.Bool.{eqb-false, eq-eqb}
 use Rattle.std.proofs.lemmas.List.Elements.{All-nil, All-cons, All-head, All-tail, All-weaker, All-contains}
-use Rattle.script_machine.specs.declared.instance.Instance.{Instance}
-use Rattle.script_machine.specs.declared.threads.Which.TheVariants.{Slot}
-use Rattle.script_machine.specs.Outcome.{Outcome, Goes, IfGoes}
-use Rattle.script_machine.specs.Places.{Places, place_by, place, put_some, on_place, Everyone}
-use Rattle.script_machine.specs.Starting.{Crowd, Pair, start_all, finished_from, finished_of}
-use Rattle.script_machine.specs.Stores.{live}
+use Rattle.machine_spec.specs.declared.instance.Instance.{Instance}
+use Rattle.machine_spec.specs.declared.threads.Which.TheVariants.{Slot}
+use Rattle.machine_spec.specs.Outcome.{Outcome, Goes, IfGoes}
+use Rattle.machine_spec.specs.Places.{Places, place_by, place, put_some, on_place, Everyone}
+use Rattle.machine_spec.specs.Starting.{Crowd, Pair, start_all, finished_from, finished_of}
+use Rattle.machine_spec.specs.Stores.{live}
 use Rattle.project_check.specs.declared.project.Project.{Project}
 use Rattle.targets.specs.Live.{IsLive}
 use Rattle.thread_frames.specs.Threads.{Thread, frames, fresh, finish}

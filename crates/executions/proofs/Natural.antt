@@ -10,13 +10,13 @@ use Rattle.std.proofs.lemmas.Option.{slice_get-map}
 use Rattle.opcode_table.specs.Kinds.{hat_kind}
 use Rattle.script_words.specs.declared.stops.CounterKind.{CounterKind}
 use Rattle.script_words.specs.declared.stops.CounterKind.TheVariants as counter
-use Rattle.script_machine.specs.Outcome.{Outcome, Goes, Full, TooLong, Spent, then_do, IfGoes, last_number, with_number, most_levels, with_room}
-use Rattle.script_machine.specs.Script.{op_of}
-use Rattle.script_machine.specs.Program.{hat_block}
-use Rattle.script_machine.specs.declared.threads.Which.{Which}
-use Rattle.script_machine.specs.declared.threads.Which.TheVariants.{Slot}
-use Rattle.script_machine.specs.Places.{Places, put, put_some, on_place, sum_some, shown_by, Everyone}
-use Rattle.script_machine.specs.Starting.{Handle, Crowd, Pair, restarts, open_levels, runs_at, replaced, replaced_at, appended, placed, joined, is_of, is_alive_of, new_thread, ignored_or_appended, start_by, start_one, start_all, is_spared, finished_from, finished_of}
+use Rattle.machine_spec.specs.Outcome.{Outcome, Goes, Full, TooLong, Spent, then_do, IfGoes, last_number, with_number, most_levels, with_room}
+use Rattle.machine_spec.specs.Script.{op_of}
+use Rattle.machine_spec.specs.Program.{hat_block}
+use Rattle.machine_spec.specs.declared.threads.Which.{Which}
+use Rattle.machine_spec.specs.declared.threads.Which.TheVariants.{Slot}
+use Rattle.machine_spec.specs.Places.{Places, put, put_some, on_place, sum_some, shown_by, Everyone}
+use Rattle.machine_spec.specs.Starting.{Handle, Crowd, Pair, restarts, open_levels, runs_at, replaced, replaced_at, appended, placed, joined, is_of, is_alive_of, new_thread, ignored_or_appended, start_by, start_one, start_all, is_spared, finished_from, finished_of}
 use Rattle.executions.proofs.Each.{goes_map, start_each}
 use Rattle.executions.proofs.Placing.{put_seen, everyone_put}
 

@@ -6,14 +6,14 @@ use Rattle.std.specs.Option.{option_or}
 use Rattle.std.proofs.lemmas.Bool.{eqb-false}
 use Rattle.std.proofs.lemmas.Bool.Decides.{nat_tests}
 use Rattle.std.proofs.lemmas.List.Folds.{find-append}
-use Rattle.script_machine.specs.declared.instance.Instance.{Instance}
-use Rattle.script_machine.specs.declared.records.TargetRecord.{TargetRecord}
-use Rattle.script_machine.specs.declared.variables.Store.{Store}
-use Rattle.script_machine.specs.First.{store}
-use Rattle.script_machine.specs.Lists.{first_removed, removed_at}
-use Rattle.script_machine.specs.Outcome.{last_number}
-use Rattle.script_machine.specs.Stopping.{is_clone, copied, placed_behind}
-use Rattle.script_machine.specs.Stores.{Variables, instance_at}
+use Rattle.machine_spec.specs.declared.instance.Instance.{Instance}
+use Rattle.machine_spec.specs.declared.records.TargetRecord.{TargetRecord}
+use Rattle.machine_spec.specs.declared.variables.Store.{Store}
+use Rattle.machine_spec.specs.First.{store}
+use Rattle.machine_spec.specs.Lists.{first_removed, removed_at}
+use Rattle.machine_spec.specs.Outcome.{last_number}
+use Rattle.machine_spec.specs.Stopping.{is_clone, copied, placed_behind}
+use Rattle.machine_spec.specs.Stores.{Variables, instance_at}
 use Rattle.targets.specs.First.{first_instances}
 use Rattle.targets.specs.Live.{IsLive, IsSameCast}
 use Rattle.looks_blocks.specs.Live.{HasOneEach}

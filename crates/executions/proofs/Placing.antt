@@ -6,9 +6,9 @@ use Rattle.std.specs.Option.{option_map}
 use Rattle.std.proofs.lemmas.List.{map-set}
 use Rattle.std.proofs.lemmas.List.Elements.{All-head, All-tail, All-cons}
 use Rattle.std.proofs.lemmas.Option.{slice_get-map}
-use Rattle.script_machine.specs.declared.threads.Which.{Which}
-use Rattle.script_machine.specs.declared.threads.Which.TheVariants.{Slot, Detached}
-use Rattle.script_machine.specs.Places.{Places, at_place, put, put_some, on_place, place_by, place, running, on_running, shown_by, Everyone}
+use Rattle.machine_spec.specs.declared.threads.Which.{Which}
+use Rattle.machine_spec.specs.declared.threads.Which.TheVariants.{Slot, Detached}
+use Rattle.machine_spec.specs.Places.{Places, at_place, put, put_some, on_place, place_by, place, running, on_running, shown_by, Everyone}
 
 get_set : {X : Type 0} (xs : List X) (i : ℕ) (x y : X) → slice_get xs i ≡ Some x → slice_get (slice_set xs i y) i ≡ Some y
 get_set [] i x y e = absurd (cc e)

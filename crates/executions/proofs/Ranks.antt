@@ -2,10 +2,10 @@
 use Rattle.std.proofs.Common.{◌≡◌, ℕ, zero, suc, ◌<◌, List, [], ◌∷◌, length, Some, None, refl, sym, ap, ◌∙◌, subst, arith}
 use Rattle.std.specs.Prelude.{slice_get, unwrap_or, option_map}
 use Rattle.std.proofs.lemmas.Option.{slice_get-map}
-use Rattle.script_machine.specs.Script.{End}
-use Rattle.project_file.specs.Linked.{AreRanks}
-use Rattle.project_file.specs.Trees.{Sheet, block_script, expression, script_within, script}
-use Rattle.linked_blocks.specs.Kept.{Kept}
+use Rattle.machine_spec.specs.Script.{End}
+use Rattle.project_spec.specs.Linked.{AreRanks}
+use Rattle.project_spec.specs.Trees.{Sheet, block_script, expression, script_within, script}
+use Rattle.block_checks.specs.Kept.{Kept}
 use Rattle.project_check.specs.declared.project.Project.{Project}
 use Rattle.project_check.specs.Loaded.{tables_of, links_of, ranks_at, blocks_at}
 

@@ -7,26 +7,26 @@ use Rattle.script_words.specs.declared.stops.Stop.{Stop}
 use Rattle.scratch_values.specs.Named.{Arguments}
 use Rattle.opcode_table.specs.Kinds.{kind}
 use Rattle.control_blocks.specs.Afresh.{was_afresh}
-use Rattle.script_machine.specs.Outcome.{Outcome, Goes, StopIs, most_levels}
-use Rattle.script_machine.specs.Evaluate.{evaluated}
-use Rattle.script_machine.specs.Laws.{is_own}
-use Rattle.script_machine.specs.Script.{Script, Then, Statement}
-use Rattle.script_machine.specs.Threads.{Params}
-use Rattle.script_machine.specs.View.{View}
-use Rattle.script_machine.specs.Words.{seen_words}
-use Rattle.script_machine.specs.declared.threads.Context.{Context}
-use Rattle.script_machine.specs.declared.threads.Context.TheVariants.{Fresh}
-use Rattle.script_machine.specs.declared.threads.Control.{Control}
-use Rattle.script_machine.specs.declared.threads.Control.TheVariants.{Next, Clone}
-use Rattle.script_machine.specs.declared.threads.Report.{Report}
-use Rattle.script_machine.specs.Pending.{settle}
-use Rattle.script_machine.specs.Places.{place}
-use Rattle.script_machine.specs.Starting.{open_levels}
-use Rattle.script_machine.specs.Step.{Moment, position, opens_level, step}
-use Rattle.script_machine.specs.Tasks.{Task}
-use Rattle.script_machine.specs.World.{World}
-use Rattle.project_file.specs.Linked.{IsClosed, AreRanks}
-use Rattle.project_file.specs.Trees.{script}
+use Rattle.machine_spec.specs.Outcome.{Outcome, Goes, StopIs, most_levels}
+use Rattle.machine_spec.specs.Evaluate.{evaluated}
+use Rattle.machine_spec.specs.Laws.{is_own}
+use Rattle.machine_spec.specs.Script.{Script, Then, Statement}
+use Rattle.machine_spec.specs.Threads.{Params}
+use Rattle.machine_spec.specs.View.{View}
+use Rattle.machine_spec.specs.Words.{seen_words}
+use Rattle.machine_spec.specs.declared.threads.Context.{Context}
+use Rattle.machine_spec.specs.declared.threads.Context.TheVariants.{Fresh}
+use Rattle.machine_spec.specs.declared.threads.Control.{Control}
+use Rattle.machine_spec.specs.declared.threads.Control.TheVariants.{Next, Clone}
+use Rattle.machine_spec.specs.declared.threads.Report.{Report}
+use Rattle.machine_spec.specs.Pending.{settle}
+use Rattle.machine_spec.specs.Places.{place}
+use Rattle.machine_spec.specs.Starting.{open_levels}
+use Rattle.machine_spec.specs.Step.{Moment, position, opens_level, step}
+use Rattle.machine_spec.specs.Tasks.{Task}
+use Rattle.machine_spec.specs.World.{World}
+use Rattle.project_spec.specs.Linked.{IsClosed, AreRanks}
+use Rattle.project_spec.specs.Trees.{script}
 use Rattle.project_check.specs.declared.project.Project.{Project}
 use Rattle.project_check.specs.Loaded.{program_of, blocks_at, ranks_at}
 use Rattle.cached_blocks.specs.declared.block.CachedBlock.{CachedBlock}

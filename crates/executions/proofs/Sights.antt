@@ -5,19 +5,19 @@ use Rattle.std.proofs.lemmas.List.{append-nil}
 use Rattle.std.proofs.lemmas.List.Elements.{All-nil, All-cons, All-head, All-tail}
 use Rattle.script_words.specs.declared.stops.Stop.{Stop}
 use Rattle.script_words.specs.declared.stops.Stop.TheVariants as stops
-use Rattle.script_machine.specs.Outcome.{Outcome, StopIs}
-use Rattle.script_machine.specs.Script.{Script, End, Then, Statement}
-use Rattle.script_machine.specs.Program.{hat_block}
-use Rattle.script_machine.specs.Pending.{Do, dos, markers}
-use Rattle.script_machine.specs.Places.{Places, Everyone}
-use Rattle.script_machine.specs.Starting.{Pair}
-use Rattle.script_machine.specs.Tasks.{depth, tasks}
-use Rattle.script_machine.specs.declared.instance.Instance.{Instance}
-use Rattle.script_machine.specs.declared.threads.Status.TheVariants.{Running}
-use Rattle.project_file.specs.declared.blocks.Block.{Block}
-use Rattle.project_file.specs.Linked.{AreRanks}
-use Rattle.project_file.specs.Trees.{Sheet, target_of_link, script, statement}
-use Rattle.project_file.proofs.Unrolling.{script-none, script-at}
+use Rattle.machine_spec.specs.Outcome.{Outcome, StopIs}
+use Rattle.machine_spec.specs.Script.{Script, End, Then, Statement}
+use Rattle.machine_spec.specs.Program.{hat_block}
+use Rattle.machine_spec.specs.Pending.{Do, dos, markers}
+use Rattle.machine_spec.specs.Places.{Places, Everyone}
+use Rattle.machine_spec.specs.Starting.{Pair}
+use Rattle.machine_spec.specs.Tasks.{depth, tasks}
+use Rattle.machine_spec.specs.declared.instance.Instance.{Instance}
+use Rattle.machine_spec.specs.declared.threads.Status.TheVariants.{Running}
+use Rattle.project_spec.specs.declared.blocks.Block.{Block}
+use Rattle.project_spec.specs.Linked.{AreRanks}
+use Rattle.project_spec.specs.Trees.{Sheet, target_of_link, script, statement}
+use Rattle.project_spec.proofs.Unrolling.{script-none, script-at}
 use Rattle.thread_frames.specs.declared.level.Level.{Level}
 use Rattle.thread_frames.specs.Levels.{new_level}
 use Rattle.thread_frames.specs.Reading.{first_item, block_items, items_at, pending, task}

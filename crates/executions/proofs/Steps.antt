@@ -8,33 +8,33 @@ use Rattle.script_words.specs.declared.counting.Counted.{Counted}
 use Rattle.script_words.specs.declared.stops.Stop.{Stop}
 use Rattle.script_words.specs.declared.stops.Stop.TheVariants as stops
 use Rattle.scratch_values.specs.Named.{Arguments}
-use Rattle.script_machine.specs.Outcome.{Outcome, Goes, Full, TooLong, Spent, then_do, with_room, most_levels, StopIs}
-use Rattle.script_machine.specs.Script.{Script, Then, Statement, command_of}
-use Rattle.script_machine.specs.Program.{Program}
-use Rattle.script_machine.specs.Threads.{Params}
-use Rattle.script_machine.specs.declared.threads.Context.{Context}
-use Rattle.script_machine.specs.declared.threads.Control.{Control}
-use Rattle.script_machine.specs.declared.threads.Control.TheVariants.{Next, Branch, Yield, YieldTick, Promise, Call, StopThis, StopOthers, StopAll, DeleteClone, Start, Clone}
-use Rattle.script_machine.specs.declared.threads.Report.{Report}
-use Rattle.script_machine.specs.declared.threads.Which.{Which}
-use Rattle.script_machine.specs.Laws.{is_own}
-use Rattle.script_machine.specs.Keeping.{is_called, top_fits}
-use Rattle.script_machine.specs.Pending.{Item, Position, dos}
-use Rattle.script_machine.specs.Places.{Places, at_place, put, place}
-use Rattle.script_machine.specs.Evaluate.{evaluated}
-use Rattle.script_machine.specs.Step.{Moment, position, opens_level, moved, moved_with_room, act, view_of, row, execute, execute_first, step_by, step}
-use Rattle.script_machine.specs.Tasks.{Task, levels}
-use Rattle.script_machine.specs.Words.{Drawn, seen_words}
-use Rattle.script_machine.specs.World.{World}
-use Rattle.project_file.specs.Trees.{Sheet, target_of_link, script, statement}
-use Rattle.project_file.proofs.Unrolling.{script-at}
+use Rattle.machine_spec.specs.Outcome.{Outcome, Goes, Full, TooLong, Spent, then_do, with_room, most_levels, StopIs}
+use Rattle.machine_spec.specs.Script.{Script, Then, Statement, command_of}
+use Rattle.machine_spec.specs.Program.{Program}
+use Rattle.machine_spec.specs.Threads.{Params}
+use Rattle.machine_spec.specs.declared.threads.Context.{Context}
+use Rattle.machine_spec.specs.declared.threads.Control.{Control}
+use Rattle.machine_spec.specs.declared.threads.Control.TheVariants.{Next, Branch, Yield, YieldTick, Promise, Call, StopThis, StopOthers, StopAll, DeleteClone, Start, Clone}
+use Rattle.machine_spec.specs.declared.threads.Report.{Report}
+use Rattle.machine_spec.specs.declared.threads.Which.{Which}
+use Rattle.machine_spec.specs.Laws.{is_own}
+use Rattle.machine_spec.specs.Keeping.{is_called, top_fits}
+use Rattle.machine_spec.specs.Pending.{Item, Position, dos}
+use Rattle.machine_spec.specs.Places.{Places, at_place, put, place}
+use Rattle.machine_spec.specs.Evaluate.{evaluated}
+use Rattle.machine_spec.specs.Step.{Moment, position, opens_level, moved, moved_with_room, act, view_of, row, execute, execute_first, step_by, step}
+use Rattle.machine_spec.specs.Tasks.{Task, levels}
+use Rattle.machine_spec.specs.Words.{Drawn, seen_words}
+use Rattle.machine_spec.specs.World.{World}
+use Rattle.project_spec.specs.Trees.{Sheet, target_of_link, script, statement}
+use Rattle.project_spec.proofs.Unrolling.{script-at}
 use Rattle.project_check.specs.declared.project.Project.{Project}
 use Rattle.project_check.specs.Loaded.{program_of}
 use Rattle.thread_frames.specs.Levels.{top_block, top_context, near_params, without_top}
 use Rattle.thread_frames.specs.Reading.{params_in, first_item, beneath, pending, task}
 use Rattle.thread_frames.specs.Fit.{kind_of}
 use Rattle.thread_frames.specs.Threads.{Thread, frames}
-use Rattle.script_machine.specs.Starting.{open_levels}
+use Rattle.machine_spec.specs.Starting.{open_levels}
 use Rattle.thread_moves.specs.Ranked.{IsRanked}
 use Rattle.thread_moves.specs.Standing.{IsAt, TopHolds}
 use Rattle.thread_moves.proofs.Items.{at_block as items_at_block}

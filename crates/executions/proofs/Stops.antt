@@ -2,7 +2,7 @@
 use Rattle.std.proofs.Common.{◌≡◌, ◌∙◌, Err, ap}
 use Rattle.script_words.specs.declared.stops.Stop.{Stop}
 use Rattle.script_words.specs.declared.stops.Stop.TheVariants.{Stack, Text, Counter, NoMemory}
-use Rattle.script_machine.specs.Outcome.{Outcome, then_do, StopIs}
+use Rattle.machine_spec.specs.Outcome.{Outcome, then_do, StopIs}
 
 -- nothing goes on behind one
 pub stop-then : (T U : Type 0) {A B : Type 0} (stop : Stop) (o : Outcome A) (f : A → Outcome B) → StopIs {T = T} (Err stop) o → StopIs {T = U} (Err stop) (then_do o f)

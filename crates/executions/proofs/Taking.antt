@@ -1,13 +1,13 @@
 -- The context of the running thread's block was taken out.
 use Rattle.std.proofs.Common.{◌≡◌, ℕ, zero, suc, List, [], ◌∷◌, map, Some, refl, sym, ap, ◌∙◌, subst}
 use Rattle.std.specs.Prelude.{slice_get, slice_set}
-use Rattle.script_machine.specs.Threads.{Listed}
-use Rattle.script_machine.specs.declared.threads.Context.TheVariants.{Fresh}
-use Rattle.script_machine.specs.declared.threads.Which.{Which}
-use Rattle.script_machine.specs.declared.threads.Which.TheVariants.{Slot, Detached}
-use Rattle.script_machine.specs.Places.{Places, at_place, put, place, on_place}
-use Rattle.project_file.specs.Trees.{Sheet}
-use Rattle.project_file.proofs.Unrolling.{held_at}
+use Rattle.machine_spec.specs.Threads.{Listed}
+use Rattle.machine_spec.specs.declared.threads.Context.TheVariants.{Fresh}
+use Rattle.machine_spec.specs.declared.threads.Which.{Which}
+use Rattle.machine_spec.specs.declared.threads.Which.TheVariants.{Slot, Detached}
+use Rattle.machine_spec.specs.Places.{Places, at_place, put, place, on_place}
+use Rattle.project_spec.specs.Trees.{Sheet}
+use Rattle.project_spec.proofs.Unrolling.{held_at}
 use Rattle.project_check.specs.declared.project.Project.{Project}
 use Rattle.thread_frames.specs.declared.level.Level.{Level}
 use Rattle.thread_frames.specs.Levels.{on_top, with_context, top_block}

@@ -10,21 +10,21 @@ use Rattle.scratch_values.specs.declared.value.Value.{Value}
 use Rattle.scratch_values.specs.declared.value.Value.TheVariants.{Number}
 use Rattle.scratch_number.specs.Arithmetic.{add}
 use Rattle.scratch_values.specs.Casts.{number}
-use Rattle.script_machine.specs.DataRows.{Named, added, inserted, deleted, replaced, value_set, items_set, shown_as, data_by, data_row, named, at_index, with_list, items_named}
-use Rattle.script_machine.specs.Lists.{set_some, changed_at_some}
-use Rattle.script_machine.specs.Monitors.{what_shows, is_some_same, monitor_set_by, monitor_set}
-use Rattle.script_machine.specs.Outcome.{Outcome, Goes, Full, TooLong, Spent, then_do, IfGoes}
-use Rattle.script_machine.specs.Parts.{DataParts}
-use Rattle.script_machine.specs.Program.{Records}
-use Rattle.script_machine.specs.Random.{indexed}
-use Rattle.script_machine.specs.Stores.{Variables, on_store, owner_of, index_of, value_of}
-use Rattle.script_machine.specs.declared.instance.Instance.{Instance}
-use Rattle.script_machine.specs.declared.threads.Context.TheVariants.{Fresh}
-use Rattle.script_machine.specs.declared.threads.Control.TheVariants.{Next}
-use Rattle.script_machine.specs.declared.variables.Shown.{Shown}
-use Rattle.script_machine.specs.View.{Row, value_at, number_at}
-use Rattle.script_machine.specs.declared.variables.Shown.TheVariants as shown
-use Rattle.script_machine.specs.declared.variables.Store.{Store}
+use Rattle.machine_spec.specs.DataRows.{Named, added, inserted, deleted, replaced, value_set, items_set, shown_as, data_by, data_row, named, at_index, with_list, items_named}
+use Rattle.machine_spec.specs.Lists.{set_some, changed_at_some}
+use Rattle.machine_spec.specs.Monitors.{what_shows, is_some_same, monitor_set_by, monitor_set}
+use Rattle.machine_spec.specs.Outcome.{Outcome, Goes, Full, TooLong, Spent, then_do, IfGoes}
+use Rattle.machine_spec.specs.Parts.{DataParts}
+use Rattle.machine_spec.specs.Program.{Records}
+use Rattle.machine_spec.specs.Random.{indexed}
+use Rattle.machine_spec.specs.Stores.{Variables, on_store, owner_of, index_of, value_of}
+use Rattle.machine_spec.specs.declared.instance.Instance.{Instance}
+use Rattle.machine_spec.specs.declared.threads.Context.TheVariants.{Fresh}
+use Rattle.machine_spec.specs.declared.threads.Control.TheVariants.{Next}
+use Rattle.machine_spec.specs.declared.variables.Shown.{Shown}
+use Rattle.machine_spec.specs.View.{Row, value_at, number_at}
+use Rattle.machine_spec.specs.declared.variables.Shown.TheVariants as shown
+use Rattle.machine_spec.specs.declared.variables.Store.{Store}
 use Rattle.variables.specs.Held.{HasNoStore}
 use Rattle.executions.proofs.People.{none_there, none_behind}
 

@@ -2,15 +2,15 @@
 use Rattle.std.proofs.Common.{◌≡◌, ℕ, Bool, true, false, List, [], ◌∷◌, Some, refl, sym, ap, ◌∙◌, arith}
 use Rattle.std.specs.Prelude.{is_some}
 use Rattle.rand_core.specs.Stream.{Stream}
-use Rattle.script_machine.specs.declared.threads.Report.{Report}
-use Rattle.script_machine.specs.declared.threads.Report.TheVariants.{Go, Uncovered, Yielded, Ticked, Waits, Ended}
-use Rattle.script_machine.specs.Threads.{is_done}
-use Rattle.script_machine.specs.Pending.{Position}
-use Rattle.script_machine.specs.Places.{Places, place, put, running, on_running}
-use Rattle.script_machine.specs.Tasks.{at_position, status_after}
-use Rattle.script_machine.specs.Step.{moved}
+use Rattle.machine_spec.specs.declared.threads.Report.{Report}
+use Rattle.machine_spec.specs.declared.threads.Report.TheVariants.{Go, Uncovered, Yielded, Ticked, Waits, Ended}
+use Rattle.machine_spec.specs.Threads.{is_done}
+use Rattle.machine_spec.specs.Pending.{Position}
+use Rattle.machine_spec.specs.Places.{Places, place, put, running, on_running}
+use Rattle.machine_spec.specs.Tasks.{at_position, status_after}
+use Rattle.machine_spec.specs.Step.{moved}
 use Rattle.project_check.specs.declared.project.Project.{Project}
-use Rattle.project_file.specs.Trees.{Sheet}
+use Rattle.project_spec.specs.Trees.{Sheet}
 use Rattle.thread_frames.specs.declared.level.Level.{Level}
 use Rattle.thread_frames.specs.Levels.{top_block}
 use Rattle.thread_frames.specs.Reading.{task}

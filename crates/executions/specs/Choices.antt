@@ -5,13 +5,13 @@ use Rattle.opcode_table.specs.declared.kinds.Kind.{Kind}
 use Rattle.opcode_table.specs.declared.opcode.Opcode.{Opcode}
 use Rattle.opcode_table.specs.declared.opcode.Opcode.TheVariants.{ControlForever, ControlRepeatUntil, ControlIf, ControlIfElse}
 use Rattle.scratch_values.specs.Named.{Arguments}
-use Rattle.script_machine.specs.ControlRows.{branch_if}
-use Rattle.script_machine.specs.Keeping.{top_fits}
-use Rattle.script_machine.specs.View.{truth_at}
-use Rattle.script_machine.specs.declared.threads.Context.{Context}
-use Rattle.script_machine.specs.declared.threads.Context.TheVariants.{Fresh}
-use Rattle.script_machine.specs.declared.threads.Control.{Control}
-use Rattle.script_machine.specs.declared.threads.Control.TheVariants.{Branch, Next}
+use Rattle.machine_spec.specs.ControlRows.{branch_if}
+use Rattle.machine_spec.specs.Keeping.{top_fits}
+use Rattle.machine_spec.specs.View.{truth_at}
+use Rattle.machine_spec.specs.declared.threads.Context.{Context}
+use Rattle.machine_spec.specs.declared.threads.Context.TheVariants.{Fresh}
+use Rattle.machine_spec.specs.declared.threads.Control.{Control}
+use Rattle.machine_spec.specs.declared.threads.Control.TheVariants.{Branch, Next}
 use Rattle.executions.specs.declared.choosing.Choice.{Choice}
 use Rattle.executions.specs.declared.choosing.Choice.TheVariants.{Enter, Pass}
 

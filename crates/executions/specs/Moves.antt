@@ -1,14 +1,14 @@
 -- A thread that was moved; the contracts of private functions alone cite these.
 use Rattle.std.specs.Prelude.{◌≡◌, ℕ, Bool, true, false, List, ◌++◌, Some}
-use Rattle.script_machine.specs.Outcome.{Outcome, Goes, with_room}
-use Rattle.script_machine.specs.Script.{Script, Then, Statement}
-use Rattle.script_machine.specs.Threads.{is_done}
-use Rattle.script_machine.specs.declared.threads.Report.{Report}
-use Rattle.script_machine.specs.declared.threads.Which.{Which}
-use Rattle.script_machine.specs.Pending.{Item, Position, dos}
-use Rattle.script_machine.specs.Places.{Places, at_place, put}
-use Rattle.script_machine.specs.Tasks.{status_after}
-use Rattle.project_file.specs.Trees.{script}
+use Rattle.machine_spec.specs.Outcome.{Outcome, Goes, with_room}
+use Rattle.machine_spec.specs.Script.{Script, Then, Statement}
+use Rattle.machine_spec.specs.Threads.{is_done}
+use Rattle.machine_spec.specs.declared.threads.Report.{Report}
+use Rattle.machine_spec.specs.declared.threads.Which.{Which}
+use Rattle.machine_spec.specs.Pending.{Item, Position, dos}
+use Rattle.machine_spec.specs.Places.{Places, at_place, put}
+use Rattle.machine_spec.specs.Tasks.{status_after}
+use Rattle.project_spec.specs.Trees.{script}
 use Rattle.thread_frames.specs.declared.level.Level.{Level}
 use Rattle.thread_frames.specs.Levels.{without_top, warp_flag}
 use Rattle.thread_frames.specs.Reading.{beneath}

@@ -1,6 +1,6 @@
 -- What a run keeps where no thread is visited.
 use Rattle.std.specs.Prelude.{◌≡◌, false, None, All}
-use Rattle.script_machine.specs.Threads.{is_done}
+use Rattle.machine_spec.specs.Threads.{is_done}
 use Rattle.project_check.specs.declared.project.Project.{Project}
 use Rattle.executions.specs.declared.state.State.{State}
 use Rattle.executions.specs.Ready.{IsKept}

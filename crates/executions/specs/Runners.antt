@@ -1,10 +1,10 @@
 -- The running thread with its levels apart from the list of threads.
 use Rattle.std.specs.Prelude.{◌≡◌, ℕ, ◌≤◌, ◌+◌, Bool, true, false, [], length, Some}
-use Rattle.script_machine.specs.Outcome.{most_levels}
-use Rattle.script_machine.specs.declared.threads.Report.{Report}
-use Rattle.script_machine.specs.Places.{Places, at_place, place, on_place}
-use Rattle.script_machine.specs.Starting.{open_levels}
-use Rattle.script_machine.specs.Tasks.{status_after}
+use Rattle.machine_spec.specs.Outcome.{most_levels}
+use Rattle.machine_spec.specs.declared.threads.Report.{Report}
+use Rattle.machine_spec.specs.Places.{Places, at_place, place, on_place}
+use Rattle.machine_spec.specs.Starting.{open_levels}
+use Rattle.machine_spec.specs.Tasks.{status_after}
 use Rattle.thread_frames.specs.Threads.{Thread, frames, on_levels, with_status}
 use Rattle.thread_moves.specs.Standing.{is_ended}
 use Rattle.project_check.specs.declared.project.Project.{Project}

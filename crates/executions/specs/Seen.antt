@@ -1,11 +1,11 @@
 -- A run as the reference machine sees it: the world, with each thread's levels as what it has still to do.
 use Rattle.std.specs.Prelude.{ℕ}
 use Rattle.rand_core.specs.Stream.{Stream}
-use Rattle.script_machine.specs.Places.{Places, shown_by}
-use Rattle.script_machine.specs.Tasks.{Task}
-use Rattle.script_machine.specs.Words.{seen_words}
-use Rattle.script_machine.specs.World.{World}
-use Rattle.project_file.specs.Trees.{Sheet}
+use Rattle.machine_spec.specs.Places.{Places, shown_by}
+use Rattle.machine_spec.specs.Tasks.{Task}
+use Rattle.machine_spec.specs.Words.{seen_words}
+use Rattle.machine_spec.specs.World.{World}
+use Rattle.project_spec.specs.Trees.{Sheet}
 use Rattle.thread_frames.specs.Reading.{task}
 use Rattle.thread_frames.specs.Threads.{Thread}
 use Rattle.project_check.specs.declared.project.Project.{Project}

@@ -4,11 +4,11 @@ ghost use Rattle.std.specs.Prelude.{◌≡◌, ◌<◌, true, false, Some, IfOk,
 ghost use Rattle.opcode_table.specs.Kinds.{kind};
 ghost use Rattle.cached_blocks.specs.declared.block.CachedBlock.{CachedBlock};
 ghost use Rattle.cached_blocks.specs.Cached.{cached_blocks};
-ghost use Rattle.script_machine.specs.Keeping.{control_fits};
-ghost use Rattle.script_machine.specs.Laws as laws;
-ghost use Rattle.script_machine.specs.Outcome.{StopIs, most_levels};
-ghost use Rattle.script_machine.specs.Starting.{open_levels};
-ghost use Rattle.script_machine.specs.Step.{position, opens_level};
+ghost use Rattle.machine_spec.specs.Keeping.{control_fits};
+ghost use Rattle.machine_spec.specs.Laws as laws;
+ghost use Rattle.machine_spec.specs.Outcome.{StopIs, most_levels};
+ghost use Rattle.machine_spec.specs.Starting.{open_levels};
+ghost use Rattle.machine_spec.specs.Step.{position, opens_level};
 ghost use Rattle.project_check.specs.Loaded.{program_of, sheet_at};
 ghost use Rattle.thread_frames.specs.Threads.{frames};
 ghost use Rattle.thread_moves.specs.Standing.{is_ended};
@@ -18,8 +18,8 @@ ghost use Rattle.executions.specs.Runners.{IsApart, IsMoved, given_back, given_u
 use crate::moving::{call, enter, go_on, stay, stop_this_script};
 use crate::running::Runner;
 use crate::state::State;
+use machine_spec::{BlockId, Context, Control, Report};
 use project_check::Project;
-use script_machine::{BlockId, Context, Control, Report};
 use script_words::{Rng, Stop};
 use thread_frames::Threads;
 

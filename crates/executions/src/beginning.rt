@@ -1,16 +1,16 @@
 //! Hats that are started between frames.
 
 ghost use Rattle.std.specs.Prelude.{◌≡◌, IfOk};
-ghost use Rattle.script_machine.specs.Line as machine;
-ghost use Rattle.script_machine.specs.Outcome.{Goes, StopIs};
+ghost use Rattle.machine_spec.specs.Line as machine;
+ghost use Rattle.machine_spec.specs.Outcome.{Goes, StopIs};
 ghost use Rattle.project_check.specs.Loaded.{program_of};
 ghost use Rattle.executions.specs.Resting.{IsIdle};
 ghost use Rattle.executions.specs.Seen.{seen};
 
 use crate::state::State;
 use hats::start;
+use machine_spec::{Filter, Serials};
 use project_check::Project;
-use script_machine::{Filter, Serials};
 use script_words::{Rng, Stop};
 use std::alloc::Global;
 

@@ -5,8 +5,8 @@ ghost use Rattle.std.specs.Option.{option_map};
 ghost use Rattle.scratch_values.specs.Args.{arguments};
 ghost use Rattle.scratch_values.specs.Held.{pair_of};
 ghost use Rattle.scratch_values.specs.declared.names.ResolvedField.{ResolvedField as Resolved};
-ghost use Rattle.script_machine.specs.ControlRows.{branch_if};
-ghost use Rattle.script_machine.specs.View.{truth_at};
+ghost use Rattle.machine_spec.specs.ControlRows.{branch_if};
+ghost use Rattle.machine_spec.specs.View.{truth_at};
 ghost use Rattle.executions.specs.Choices.{chosen, control_of};
 
 use block_arguments::truth;

@@ -1,12 +1,12 @@
 //! The control that makes a clone.
 
 ghost use Rattle.std.specs.Prelude.{◌≡◌, ◌<◌, ◌^◌, ◌+◌, ◌==◌, ◌∷◌, ◌++◌, [], Bool, length, Some, IfOk, OnOk};
-ghost use Rattle.script_machine.specs.declared.threads.Control.TheVariants as control;
-ghost use Rattle.script_machine.specs.Outcome.{Goes, StopIs, last_number};
-ghost use Rattle.script_machine.specs.Places.{running};
-ghost use Rattle.script_machine.specs.Step as machine;
-ghost use Rattle.script_machine.specs.Stopping.{copied, has_no_room};
-ghost use Rattle.script_machine.specs.Stores.{instance_at, store_at};
+ghost use Rattle.machine_spec.specs.declared.threads.Control.TheVariants as control;
+ghost use Rattle.machine_spec.specs.Outcome.{Goes, StopIs, last_number};
+ghost use Rattle.machine_spec.specs.Places.{running};
+ghost use Rattle.machine_spec.specs.Step as machine;
+ghost use Rattle.machine_spec.specs.Stopping.{copied, has_no_room};
+ghost use Rattle.machine_spec.specs.Stores.{instance_at, store_at};
 ghost use Rattle.project_check.specs.Loaded.{program_of, tables_of};
 ghost use Rattle.targets.specs.Live.{IsLive};
 ghost use Rattle.variables.specs.Held.{HasNoStore};
@@ -19,8 +19,8 @@ use crate::listed::go_on;
 use crate::state::State;
 use crate::stepping::Next;
 use hats::start;
+use machine_spec::{Filter, InstanceId, Report};
 use project_check::Project;
-use script_machine::{Filter, InstanceId, Report};
 use script_words::{CounterKind, Rng, Stop};
 use std::alloc::{AllocError, Global};
 

@@ -4,19 +4,19 @@ ghost use Rattle.std.specs.Prelude.{◌≡◌, ◌≤◌, ◌+◌, ◌∷◌, �
 ghost use Rattle.opcode_table.specs.Kinds.{kind};
 ghost use Rattle.cached_blocks.specs.declared.block.CachedBlock.{CachedBlock};
 ghost use Rattle.cached_blocks.specs.Cached.{cached_blocks};
-ghost use Rattle.script_machine.specs.Keeping.{may_wait, top_fits};
-ghost use Rattle.script_machine.specs.Outcome.{most_levels};
-ghost use Rattle.script_machine.specs.Pending as machine;
-ghost use Rattle.script_machine.specs.Places.{on_place};
-ghost use Rattle.script_machine.specs.Starting.{open_levels};
+ghost use Rattle.machine_spec.specs.Keeping.{may_wait, top_fits};
+ghost use Rattle.machine_spec.specs.Outcome.{most_levels};
+ghost use Rattle.machine_spec.specs.Pending as machine;
+ghost use Rattle.machine_spec.specs.Places.{on_place};
+ghost use Rattle.machine_spec.specs.Starting.{open_levels};
 ghost use Rattle.project_check.specs.Loaded.{sheet_at};
 ghost use Rattle.thread_frames.specs.Threads.{frames};
 ghost use Rattle.thread_moves.specs.Standing.{is_ended};
 ghost use Rattle.executions.specs.Moves.{IsAtBlock, MovesOn, with_levels};
 
 use crate::moving::status_after;
+use machine_spec::{BlockId, Context, Report, TargetId, Which};
 use project_check::Project;
-use script_machine::{BlockId, Context, Report, TargetId, Which};
 use thread_frames::{Levels, Threads};
 
 // Puts levels back, and sets how the thread stands.

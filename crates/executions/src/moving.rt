@@ -4,14 +4,14 @@ ghost use Rattle.std.specs.Prelude.{◌≡◌, ◌<◌, ◌∷◌, ◌&&◌, tru
 ghost use Rattle.opcode_table.specs.Kinds.{kind};
 ghost use Rattle.cached_blocks.specs.declared.block.CachedBlock.{CachedBlock};
 ghost use Rattle.cached_blocks.specs.Cached.{cached_blocks};
-ghost use Rattle.script_machine.specs.Called.{called};
-ghost use Rattle.script_machine.specs.Keeping.{has_branches, is_calls, may_wait, top_fits, under_fits};
-ghost use Rattle.script_machine.specs.Outcome.{StopIs, with_room, most_levels};
-ghost use Rattle.script_machine.specs.Pending as machine;
-ghost use Rattle.script_machine.specs.Starting.{open_levels};
-ghost use Rattle.script_machine.specs.Step.{entered_some, position};
-ghost use Rattle.script_machine.specs.Tasks as tasks;
-ghost use Rattle.script_machine.specs.declared.threads.Control.TheVariants as control;
+ghost use Rattle.machine_spec.specs.Called.{called};
+ghost use Rattle.machine_spec.specs.Keeping.{has_branches, is_calls, may_wait, top_fits, under_fits};
+ghost use Rattle.machine_spec.specs.Outcome.{StopIs, with_room, most_levels};
+ghost use Rattle.machine_spec.specs.Pending as machine;
+ghost use Rattle.machine_spec.specs.Starting.{open_levels};
+ghost use Rattle.machine_spec.specs.Step.{entered_some, position};
+ghost use Rattle.machine_spec.specs.Tasks as tasks;
+ghost use Rattle.machine_spec.specs.declared.threads.Control.TheVariants as control;
 ghost use Rattle.project_check.specs.Loaded.{program_of, sheet_at};
 ghost use Rattle.thread_frames.specs.Threads.{frames};
 ghost use Rattle.thread_moves.specs.Standing.{is_ended};
@@ -19,9 +19,9 @@ ghost use Rattle.executions.specs.Moves.{IsAtBlock, MovesOn};
 ghost use Rattle.executions.specs.Runners.{IsApart, IsMoved, given_back, given_unless};
 
 use crate::running::Runner;
+use machine_spec::{BlockId, Boxed, Context, Report, Status};
 use project_check::Project;
 use scratch_values::Params;
-use script_machine::{BlockId, Boxed, Context, Report, Status};
 use script_words::Stop;
 use thread_frames::Threads;
 

@@ -1,8 +1,8 @@
 //! The state with which a run begins.
 
 ghost use Rattle.std.specs.Prelude.{◌≡◌, IfOk};
-ghost use Rattle.script_machine.specs.First.{first_world};
-ghost use Rattle.script_machine.specs.Words.{seen_words};
+ghost use Rattle.machine_spec.specs.First.{first_world};
+ghost use Rattle.machine_spec.specs.Words.{seen_words};
 ghost use Rattle.project_check.specs.Loaded.{program_of};
 ghost use Rattle.executions.specs.Resting.{IsIdle};
 ghost use Rattle.executions.specs.Seen.{seen};

@@ -4,12 +4,12 @@ ghost use Rattle.std.specs.Prelude.{◌≡◌, ◌<◌, ℕ, length, true, false
 ghost use Rattle.opcode_table.specs.Kinds.{kind};
 ghost use Rattle.cached_blocks.specs.declared.block.CachedBlock.{CachedBlock};
 ghost use Rattle.cached_blocks.specs.Cached.{cached_blocks};
-ghost use Rattle.script_machine.specs.declared.threads.Context.TheVariants.{Fresh};
-ghost use Rattle.script_machine.specs.declared.threads.Control.TheVariants.{Clone};
-ghost use Rattle.script_machine.specs.Keeping.{control_fits};
-ghost use Rattle.script_machine.specs.Laws as laws;
-ghost use Rattle.script_machine.specs.Outcome.{Goes, StopIs};
-ghost use Rattle.script_machine.specs.Places.{at_place, place};
+ghost use Rattle.machine_spec.specs.declared.threads.Context.TheVariants.{Fresh};
+ghost use Rattle.machine_spec.specs.declared.threads.Control.TheVariants.{Clone};
+ghost use Rattle.machine_spec.specs.Keeping.{control_fits};
+ghost use Rattle.machine_spec.specs.Laws as laws;
+ghost use Rattle.machine_spec.specs.Outcome.{Goes, StopIs};
+ghost use Rattle.machine_spec.specs.Places.{at_place, place};
 ghost use Rattle.project_check.specs.Loaded.{tables_of, blocks_at, sheet_at};
 ghost use Rattle.targets.specs.Live.{IsLive};
 ghost use Rattle.executions.specs.Nexts.{next_of};
@@ -19,8 +19,8 @@ ghost use Rattle.executions.specs.Seen.{seen};
 
 use crate::state::State;
 use crate::stepping::Next;
+use machine_spec::{Control, Report, Which};
 use project_check::Project;
-use script_machine::{Control, Report, Which};
 use script_words::{Rng, Stop};
 use std::alloc::Global;
 

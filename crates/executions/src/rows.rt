@@ -5,11 +5,11 @@ ghost use Rattle.scratch_values.specs.Args.{arguments};
 ghost use Rattle.scratch_values.specs.Held.{pair_of};
 ghost use Rattle.opcode_table.specs.Kinds.{kind, group};
 ghost use Rattle.opcode_table.specs.declared.grouping.Group.TheVariants as group_of;
-ghost use Rattle.script_machine.specs.declared.threads.Control.TheVariants.{Next};
-ghost use Rattle.script_machine.specs.Keeping.{control_fits};
-ghost use Rattle.script_machine.specs.Laws.{is_own};
-ghost use Rattle.script_machine.specs.declared.threads.Context.{Context as Kept};
-ghost use Rattle.script_machine.specs.declared.threads.Context.TheVariants.{Fresh};
+ghost use Rattle.machine_spec.specs.declared.threads.Control.TheVariants.{Next};
+ghost use Rattle.machine_spec.specs.Keeping.{control_fits};
+ghost use Rattle.machine_spec.specs.Laws.{is_own};
+ghost use Rattle.machine_spec.specs.declared.threads.Context.{Context as Kept};
+ghost use Rattle.machine_spec.specs.declared.threads.Context.TheVariants.{Fresh};
 ghost use Rattle.control_blocks.specs.Afresh.{was_afresh};
 ghost use Rattle.project_check.specs.Loaded.{program_of};
 ghost use Rattle.targets.specs.Live.{IsLive};
@@ -18,10 +18,10 @@ ghost use Rattle.executions.specs.Rows.{RowGoes, RowStops, Leaves, may_clone};
 
 use crate::state::State;
 use cached_blocks::CachedBlock;
+use machine_spec::{Context, Control, InstanceId, Serial};
 use opcode_table::{Group, group};
 use project_check::Project;
 use scratch_values::{Arg, Args};
-use script_machine::{Context, Control, InstanceId, Serial};
 use script_words::{Rng, Stop};
 use std::alloc::Global;
 

@@ -1,8 +1,8 @@
 //! The running thread, whose levels are apart from the list of threads while it executes.
 
 ghost use Rattle.std.specs.Prelude.{◌≡◌, ◌≤◌, ◌+◌, [], length};
-ghost use Rattle.script_machine.specs.Outcome.{most_levels};
-ghost use Rattle.script_machine.specs.Starting.{open_levels};
+ghost use Rattle.machine_spec.specs.Outcome.{most_levels};
+ghost use Rattle.machine_spec.specs.Starting.{open_levels};
 ghost use Rattle.thread_frames.specs.Levels.{top_block, warp_flag};
 ghost use Rattle.thread_frames.specs.Threads.{frames};
 ghost use Rattle.executions.specs.Ready.{IsReady};
@@ -10,8 +10,8 @@ ghost use Rattle.executions.specs.Runners.{IsRunner, given_back, next_block, wit
 
 use crate::state::State;
 use crate::stepping::Next;
+use machine_spec::{BlockId, InstanceId, Serial, TargetId, Which};
 use project_check::Project;
-use script_machine::{BlockId, InstanceId, Serial, TargetId, Which};
 use script_words::Rng;
 use std::alloc::Global;
 use std::mem;

@@ -4,8 +4,8 @@ ghost use Rattle.std.specs.Prelude.{◌≡◌, ◌<◌, length, slice_get, Some,
 ghost use Rattle.opcode_table.specs.Kinds.{group};
 ghost use Rattle.opcode_table.specs.declared.opcode.Opcode.TheVariants.{ControlForever};
 ghost use Rattle.cached_blocks.specs.Cached.{cached_blocks};
-ghost use Rattle.script_machine.specs.Outcome.{Goes, StopIs};
-ghost use Rattle.script_machine.specs.Step as machine;
+ghost use Rattle.machine_spec.specs.Outcome.{Goes, StopIs};
+ghost use Rattle.machine_spec.specs.Step as machine;
 ghost use Rattle.thread_frames.specs.Levels.{top_block};
 ghost use Rattle.project_check.specs.Loaded.{program_of, tables_of, blocks_at, sheet_at};
 ghost use Rattle.executions.specs.Runners.{IsRunner, IsRunnerAfter, after_runner, with_runner};
@@ -15,9 +15,9 @@ use crate::running::Runner;
 use crate::state::State;
 use cached_blocks::CachedBlock;
 use evaluate::{View, inputs, no_inputs, only_input};
+use machine_spec::{BlockId, InstanceId, Report, Serial, TargetId};
 use opcode_table::{Group, Opcode, group};
 use project_check::Project;
-use script_machine::{BlockId, InstanceId, Report, Serial, TargetId};
 use script_words::{Rng, Stop};
 use std::alloc::Global;
 

@@ -1,10 +1,10 @@
 //! Controls that stop.
 
 ghost use Rattle.std.specs.Prelude.{◌≡◌, ◌<◌, Bool, length, Some, IfOk};
-ghost use Rattle.script_machine.specs.declared.threads.Control.TheVariants as control;
-ghost use Rattle.script_machine.specs.Outcome.{Goes, StopIs};
-ghost use Rattle.script_machine.specs.Places.{at_place, place};
-ghost use Rattle.script_machine.specs.Stopping as machine;
+ghost use Rattle.machine_spec.specs.declared.threads.Control.TheVariants as control;
+ghost use Rattle.machine_spec.specs.Outcome.{Goes, StopIs};
+ghost use Rattle.machine_spec.specs.Places.{at_place, place};
+ghost use Rattle.machine_spec.specs.Stopping as machine;
 ghost use Rattle.project_check.specs.Loaded.{program_of, tables_of};
 ghost use Rattle.executions.specs.Nexts.{next_of};
 ghost use Rattle.executions.specs.Ready.{IsReady, IsKept, IsAfter};
@@ -15,10 +15,10 @@ ghost use Rattle.executions.specs.Seen.{seen};
 use crate::listed::go_on;
 use crate::state::State;
 use crate::stepping::Next;
+use machine_spec::{InstanceId, Report, Which};
 use project_check::Project;
-use scenes::drop_questions;
-use script_machine::{InstanceId, Report, Which};
 use script_words::{Rng, Stop};
+use speech_bubbles::drop_questions;
 use std::alloc::Global;
 
 // Whether an instance is a clone: an original has the number of its target.

@@ -2,9 +2,9 @@
 use Rattle.std.proofs.Common.{◌≡◌, ℕ, ◌<◌, Result, Ok, Err, ◌∙◌, subst, arith}
 use Rattle.std.specs.Prelude.{IfOk}
 use Rattle.script_words.specs.declared.stops.Stop.{Stop}
-use Rattle.script_machine.specs.Outcome.{Outcome, Goes, IfGoes}
-use Rattle.script_machine.specs.Tasks.{Task}
-use Rattle.script_machine.specs.World.{World}
+use Rattle.machine_spec.specs.Outcome.{Outcome, Goes, IfGoes}
+use Rattle.machine_spec.specs.Tasks.{Task}
+use Rattle.machine_spec.specs.World.{World}
 use Rattle.frames.specs.Times.{IsSameTime}
 
 -- an outcome that keeps both, from a world to another

@@ -13,43 +13,43 @@ use Rattle.scratch_number.specs.Arithmetic.{add}
 use Rattle.scratch_values.specs.Casts.{zero_number}
 use Rattle.scratch_values.specs.Named.{Arguments}
 use Rattle.scratch_values.specs.declared.value.Value.{Value}
-use Rattle.script_machine.specs.Outcome.{Outcome, Goes, Full, TooLong, Spent, then_do, IfGoes, with_number, with_room, last_number, most_levels}
-use Rattle.script_machine.specs.Script.{Statement, Command, command_of, inputs_of}
-use Rattle.script_machine.specs.Program.{Program, Records, Procedure, procedure, stage_number, hat_block}
-use Rattle.script_machine.specs.Threads.{Params, Listed}
-use Rattle.script_machine.specs.declared.threads.Context.{Context}
-use Rattle.script_machine.specs.declared.threads.Context.TheVariants.{Fresh, Wait, Started, Asked, Called}
-use Rattle.script_machine.specs.declared.threads.Control.{Control}
-use Rattle.script_machine.specs.declared.threads.Control.TheVariants.{Next, Yield, Promise, StopOthers, StopAll, DeleteClone, Start, Clone}
-use Rattle.script_machine.specs.declared.threads.Count.{Count}
-use Rattle.script_machine.specs.declared.threads.Count.TheVariants.{Whole, Infinite}
-use Rattle.script_machine.specs.declared.threads.Filter.TheVariants.{CloneStart}
-use Rattle.script_machine.specs.declared.bubble.Say.{Say}
-use Rattle.script_machine.specs.declared.bubble.Say.TheVariants as say
-use Rattle.script_machine.specs.BubbleText.{cut}
-use Rattle.script_machine.specs.declared.instance.Instance.{Instance}
-use Rattle.script_machine.specs.declared.devices.Question.{Question}
-use Rattle.script_machine.specs.declared.devices.BubbleTimer.{BubbleTimer}
-use Rattle.script_machine.specs.Stores.{live, instance_at, is_on_stage, less, elapsed}
-use Rattle.script_machine.specs.Words.{Drawn}
-use Rattle.script_machine.specs.Texts.{bubble_text}
-use Rattle.script_machine.specs.View.{Row, value_at, number_at, text_at, field_at}
-use Rattle.script_machine.specs.Parts.{Scene, LooksParts, bubble_set, bubble_updated}
-use Rattle.script_machine.specs.Evaluate.{values, evaluated, arguments_of}
-use Rattle.script_machine.specs.Motion.{motion_row}
-use Rattle.script_machine.specs.DataRows.{data_row}
-use Rattle.script_machine.specs.Looks as looks
-use Rattle.script_machine.specs.Looks.{looks_row}
-use Rattle.script_machine.specs.ControlRows.{control_row, only, turns_left, repeat_row, wait_row, broadcast_and_wait, call_some, call_row, question_shown, question, asked, ask_row}
-use Rattle.script_machine.specs.Pending.{Item, Do, Held, Returned, Branch as BranchEnd, Again, Back, Position, gone, settle, params_in}
-use Rattle.script_machine.specs.Places.{place, running}
-use Rattle.script_machine.specs.Starting.{Pair, start_all, starts, finished_of}
-use Rattle.script_machine.specs.Stopping.{scene_of, with_scene, bubble_emptied, first_taken, is_first_of, without_questions, without_timers, questions_dropped, is_clone, disposed, clone_added, placed_behind, has_no_room}
-use Rattle.script_machine.specs.Tasks.{Task, tasks, listed, levels, Begun, begun, begin, begin_pairs, resumed}
-use Rattle.script_machine.specs.World.{World}
-use Rattle.script_machine.specs.Step.{Applied, applied, with_motion, with_looks, with_data, row_by, row, position, opens_level, Moment, moved, moved_with_room, after_start, others_stopped, clone_deleted, cloned, cloned_unless, deleted_if, act, view_of, execute, execute_first, step_by, step}
-use Rattle.script_machine.specs.Slice.{go_on, is_late, counted_after, slice_goes_on, behind, slice_by, executing, flag_of, slice, most_executions, turn_of, turn_by, turn, woken, without_detached, is_active, visit, Passed, next_place, pass_on, pass, most_slices, without_done}
-use Rattle.script_machine.specs.Frame.{still_fits, timer_ended, without_timer, end_due, next_due, Found, timers_ended, recorded, edges_of, edge_noted, edge_fired, edge_passed, edge_value, edge_view, edge_one, edges_passed, passes_go_on, passes}
+use Rattle.machine_spec.specs.Outcome.{Outcome, Goes, Full, TooLong, Spent, then_do, IfGoes, with_number, with_room, last_number, most_levels}
+use Rattle.machine_spec.specs.Script.{Statement, Command, command_of, inputs_of}
+use Rattle.machine_spec.specs.Program.{Program, Records, Procedure, procedure, stage_number, hat_block}
+use Rattle.machine_spec.specs.Threads.{Params, Listed}
+use Rattle.machine_spec.specs.declared.threads.Context.{Context}
+use Rattle.machine_spec.specs.declared.threads.Context.TheVariants.{Fresh, Wait, Started, Asked, Called}
+use Rattle.machine_spec.specs.declared.threads.Control.{Control}
+use Rattle.machine_spec.specs.declared.threads.Control.TheVariants.{Next, Yield, Promise, StopOthers, StopAll, DeleteClone, Start, Clone}
+use Rattle.machine_spec.specs.declared.threads.Count.{Count}
+use Rattle.machine_spec.specs.declared.threads.Count.TheVariants.{Whole, Infinite}
+use Rattle.machine_spec.specs.declared.threads.Filter.TheVariants.{CloneStart}
+use Rattle.machine_spec.specs.declared.bubble.Say.{Say}
+use Rattle.machine_spec.specs.declared.bubble.Say.TheVariants as say
+use Rattle.machine_spec.specs.BubbleText.{cut}
+use Rattle.machine_spec.specs.declared.instance.Instance.{Instance}
+use Rattle.machine_spec.specs.declared.devices.Question.{Question}
+use Rattle.machine_spec.specs.declared.devices.BubbleTimer.{BubbleTimer}
+use Rattle.machine_spec.specs.Stores.{live, instance_at, is_on_stage, less, elapsed}
+use Rattle.machine_spec.specs.Words.{Drawn}
+use Rattle.machine_spec.specs.Texts.{bubble_text}
+use Rattle.machine_spec.specs.View.{Row, value_at, number_at, text_at, field_at}
+use Rattle.machine_spec.specs.Parts.{Scene, LooksParts, bubble_set, bubble_updated}
+use Rattle.machine_spec.specs.Evaluate.{values, evaluated, arguments_of}
+use Rattle.machine_spec.specs.Motion.{motion_row}
+use Rattle.machine_spec.specs.DataRows.{data_row}
+use Rattle.machine_spec.specs.Looks as looks
+use Rattle.machine_spec.specs.Looks.{looks_row}
+use Rattle.machine_spec.specs.ControlRows.{control_row, only, turns_left, repeat_row, wait_row, broadcast_and_wait, call_some, call_row, question_shown, question, asked, ask_row}
+use Rattle.machine_spec.specs.Pending.{Item, Do, Held, Returned, Branch as BranchEnd, Again, Back, Position, gone, settle, params_in}
+use Rattle.machine_spec.specs.Places.{place, running}
+use Rattle.machine_spec.specs.Starting.{Pair, start_all, starts, finished_of}
+use Rattle.machine_spec.specs.Stopping.{scene_of, with_scene, bubble_emptied, first_taken, is_first_of, without_questions, without_timers, questions_dropped, is_clone, disposed, clone_added, placed_behind, has_no_room}
+use Rattle.machine_spec.specs.Tasks.{Task, tasks, listed, levels, Begun, begun, begin, begin_pairs, resumed}
+use Rattle.machine_spec.specs.World.{World}
+use Rattle.machine_spec.specs.Step.{Applied, applied, with_motion, with_looks, with_data, row_by, row, position, opens_level, Moment, moved, moved_with_room, after_start, others_stopped, clone_deleted, cloned, cloned_unless, deleted_if, act, view_of, execute, execute_first, step_by, step}
+use Rattle.machine_spec.specs.Slice.{go_on, is_late, counted_after, slice_goes_on, behind, slice_by, executing, flag_of, slice, most_executions, turn_of, turn_by, turn, woken, without_detached, is_active, visit, Passed, next_place, pass_on, pass, most_slices, without_done}
+use Rattle.machine_spec.specs.Frame.{still_fits, timer_ended, without_timer, end_due, next_due, Found, timers_ended, recorded, edges_of, edge_noted, edge_fired, edge_passed, edge_value, edge_view, edge_one, edges_passed, passes_go_on, passes}
 use Rattle.frames.specs.Times.{IsSameTime}
 
 -- Outcomes

@@ -1,11 +1,11 @@
 -- The stages of a frame, as the code makes them; the contracts of private functions alone cite this file.
 use Rattle.std.specs.Prelude.{true, false}
-use Rattle.script_machine.specs.declared.lines.Budget.{Budget}
-use Rattle.script_machine.specs.Outcome.{Outcome, then_do}
-use Rattle.script_machine.specs.Program.{Program}
-use Rattle.script_machine.specs.Tasks.{Task}
-use Rattle.script_machine.specs.World.{World}
-use Rattle.script_machine.specs.Frame.{edges, edges_passed, passes, numbered}
+use Rattle.machine_spec.specs.declared.lines.Budget.{Budget}
+use Rattle.machine_spec.specs.Outcome.{Outcome, then_do}
+use Rattle.machine_spec.specs.Program.{Program}
+use Rattle.machine_spec.specs.Tasks.{Task}
+use Rattle.machine_spec.specs.World.{World}
+use Rattle.machine_spec.specs.Frame.{edges, edges_passed, passes, numbered}
 
 -- edge hats, of which a list is made first
 abbrev pub edges_tried : Program → World Task → Outcome (World Task)

@@ -1,8 +1,8 @@
 //! The stages of a frame.
 
 ghost use Rattle.std.specs.Prelude.{◌≡◌, ◌<◌, ◌≤◌, ◌^◌, length, IfOk};
-ghost use Rattle.script_machine.specs.Frame as machine;
-ghost use Rattle.script_machine.specs.Outcome.{Goes, StopIs};
+ghost use Rattle.machine_spec.specs.Frame as machine;
+ghost use Rattle.machine_spec.specs.Outcome.{Goes, StopIs};
 ghost use Rattle.project_check.specs.declared.project.Project.{Project};
 ghost use Rattle.project_check.specs.Loaded.{program_of};
 ghost use Rattle.executions.specs.Resting.{IsIdle};
@@ -11,10 +11,10 @@ ghost use Rattle.frames.specs.Stages.{edges_tried, passes_made, threads_run, scr
 
 use edge_hats::pass_edge_hats;
 use executions::State;
+use machine_spec::Budget;
 use project_check::Project;
 use promises::end_timers;
 use scheduling::passes;
-use script_machine::Budget;
 use script_words::{CounterKind, Rng, Stop};
 use std::alloc::Global;
 

@@ -2,11 +2,11 @@
 use Rattle.std.proofs.Common.{◌≡◌, ℕ, zero, suc, ◌<◌, List, [], ◌∷◌, length, Option, Some, None, refl, sym, subst, arith}
 use Rattle.std.specs.Prelude.{slice_get}
 use Rattle.std.proofs.lemmas.Option.{slice_get_within}
-use Rattle.script_machine.specs.Script.{Script, Expression}
-use Rattle.project_file.specs.declared.blocks.Block.{Block}
-use Rattle.project_file.specs.Linked.{Behind, input_links, IsClosed}
-use Rattle.project_file.specs.Trees.{Sheet, expression, target_of_link, block_script, script_within, script}
-use Rattle.project_file.proofs.Unrolling.{next_leads, script-none}
+use Rattle.machine_spec.specs.Script.{Script, Expression}
+use Rattle.project_spec.specs.declared.blocks.Block.{Block}
+use Rattle.project_spec.specs.Linked.{Behind, input_links, IsClosed}
+use Rattle.project_spec.specs.Trees.{Sheet, expression, target_of_link, block_script, script_within, script}
+use Rattle.project_spec.proofs.Unrolling.{next_leads, script-none}
 use Rattle.thread_frames.specs.Fit.{IsHeld}
 use Rattle.thread_frames.specs.Threads.{begins_with}
 

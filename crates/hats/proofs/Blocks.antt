@@ -2,11 +2,11 @@
 use Rattle.std.proofs.Common.{◌≡◌, ℕ, Bool, true, [], ◌∷◌, Option, Some, sym, ap, ◌∙◌}
 use Rattle.std.specs.Prelude.{slice_get, if◌then◌else◌}
 use Rattle.opcode_table.specs.Kinds.{hat_kind}
-use Rattle.script_machine.specs.declared.instance.Instance.{Instance}
-use Rattle.script_machine.specs.Starting.{Pair, Crowd, restarts, start_all}
-use Rattle.project_file.specs.declared.blocks.Block.{Block}
-use Rattle.project_file.specs.Linked.{IsClosed}
-use Rattle.project_file.specs.Trees.{op_by, statement, head_of, target_of_link}
+use Rattle.machine_spec.specs.declared.instance.Instance.{Instance}
+use Rattle.machine_spec.specs.Starting.{Pair, Crowd, restarts, start_all}
+use Rattle.project_spec.specs.declared.blocks.Block.{Block}
+use Rattle.project_spec.specs.Linked.{IsClosed}
+use Rattle.project_spec.specs.Trees.{op_by, statement, head_of, target_of_link}
 use Rattle.project_check.specs.Loaded.{blocks_at, sheet_at}
 use Rattle.thread_frames.specs.Fit.{IsHeld}
 use Rattle.thread_frames.specs.Threads.{Thread, frames}

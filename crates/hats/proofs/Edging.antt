@@ -7,14 +7,14 @@ use Rattle.std.proofs.lemmas.List.Concat.{flat_map-cons}
 use Rattle.std.proofs.lemmas.List.Elements.{filter-append}
 use Rattle.opcode_table.specs.declared.hats.HatKind.TheVariants.{NoHat}
 use Rattle.opcode_table.specs.Kinds.{hat_kind}
-use Rattle.script_machine.specs.declared.instance.Instance.{Instance}
-use Rattle.script_machine.specs.Script.{Statement, op_of}
-use Rattle.script_machine.specs.Places.{Places}
-use Rattle.script_machine.specs.Starting as machine
-use Rattle.script_machine.specs.Starting.{Pair}
-use Rattle.script_machine.specs.Frame.{is_edge_hat}
-use Rattle.project_file.specs.declared.blocks.Block.{Block}
-use Rattle.project_file.specs.Trees.{op_by}
+use Rattle.machine_spec.specs.declared.instance.Instance.{Instance}
+use Rattle.machine_spec.specs.Script.{Statement, op_of}
+use Rattle.machine_spec.specs.Places.{Places}
+use Rattle.machine_spec.specs.Starting as machine
+use Rattle.machine_spec.specs.Starting.{Pair}
+use Rattle.machine_spec.specs.Frame.{is_edge_hat}
+use Rattle.project_spec.specs.declared.blocks.Block.{Block}
+use Rattle.project_spec.specs.Trees.{op_by}
 use Rattle.project_check.specs.declared.project.Project.{Project}
 use Rattle.thread_frames.specs.Threads.{Thread, frames, is_alive_of}
 use Rattle.hats.specs.Edges.{EdgeHat, is_edge, edge_of, among}

@@ -4,12 +4,12 @@ use Rattle.std.specs.Prelude.{OnOk, OnErr, Result, Ok, Err, nat_lt, ◌==◌}
 use Rattle.std.proofs.lemmas.List.Elements.{All-push, All-set, All-get_or}
 use Rattle.std.proofs.lemmas.List.Quantifiers.{position-Some}
 use Rattle.std.proofs.lemmas.Option.{get_or_from_slice_get, slice_get_within}
-use Rattle.script_machine.specs.declared.threads.Context.TheVariants.{Fresh}
-use Rattle.script_machine.specs.Outcome.{Goes, Full, with_room, most_levels}
-use Rattle.script_machine.specs.Places.{Places, Everyone}
-use Rattle.script_machine.specs.Starting.{replaced, replaced_at, appended, placed, runs_at}
-use Rattle.project_file.specs.declared.blocks.Block.{Block}
-use Rattle.project_file.specs.Trees.{Sheet}
+use Rattle.machine_spec.specs.declared.threads.Context.TheVariants.{Fresh}
+use Rattle.machine_spec.specs.Outcome.{Goes, Full, with_room, most_levels}
+use Rattle.machine_spec.specs.Places.{Places, Everyone}
+use Rattle.machine_spec.specs.Starting.{replaced, replaced_at, appended, placed, runs_at}
+use Rattle.project_spec.specs.declared.blocks.Block.{Block}
+use Rattle.project_spec.specs.Trees.{Sheet}
 use Rattle.thread_frames.specs.Fit.{Fits, IsHeld, top_at, block_at}
 use Rattle.thread_frames.specs.Restarting.{restarted, restarted_by}
 use Rattle.thread_frames.specs.Threads.{Thread, frames, new_thread, is_of}

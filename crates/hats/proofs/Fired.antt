@@ -4,13 +4,13 @@ use Rattle.std.specs.Prelude.{slice_get, IfOk}
 use Rattle.std.proofs.lemmas.Option.{same_Some, slice_get_within}
 use Rattle.opcode_table.specs.Kinds.{hat_kind}
 use Rattle.script_words.specs.declared.stops.Stop.{Stop}
-use Rattle.script_machine.specs.Outcome.{Goes, StopIs}
-use Rattle.script_machine.specs.Program.{hat_block}
-use Rattle.script_machine.specs.Script.{op_of}
-use Rattle.script_machine.specs.Starting.{Pair, Crowd, restarts, start_all}
-use Rattle.project_file.specs.declared.blocks.Block.{Block}
-use Rattle.project_file.specs.Linked.{IsClosed}
-use Rattle.project_file.specs.Trees.{op_by, head_of, target_of_link}
+use Rattle.machine_spec.specs.Outcome.{Goes, StopIs}
+use Rattle.machine_spec.specs.Program.{hat_block}
+use Rattle.machine_spec.specs.Script.{op_of}
+use Rattle.machine_spec.specs.Starting.{Pair, Crowd, restarts, start_all}
+use Rattle.project_spec.specs.declared.blocks.Block.{Block}
+use Rattle.project_spec.specs.Linked.{IsClosed}
+use Rattle.project_spec.specs.Trees.{op_by, head_of, target_of_link}
 use Rattle.project_check.specs.declared.project.Project.{Project}
 use Rattle.project_check.specs.Loaded.{tables_of, blocks_at, sheet_at}
 use Rattle.thread_frames.specs.Fit.{IsHeld}

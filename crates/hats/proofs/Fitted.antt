@@ -3,10 +3,10 @@ use Rattle.std.proofs.Common.{◌≡◌, ℕ, Bool, true, false, ◌&&◌, not, 
 use Rattle.opcode_table.specs.declared.hats.HatKind.{HatKind}
 use Rattle.opcode_table.specs.declared.hats.HatKind.TheVariants.{FlagHat, SpriteHat, StageHat, MessageHat, BackdropHat, KeyHat, CloneHat, EdgeHat, NoHat}
 use Rattle.opcode_table.specs.Kinds.{hat_kind}
-use Rattle.script_machine.specs.Script.{Statement, op_of}
-use Rattle.script_machine.specs.declared.threads.Filter.{Filter}
-use Rattle.script_machine.specs.declared.threads.Filter.TheVariants.{Broadcast, Backdrop, Key, Flag, CloneStart, Clicked}
-use Rattle.script_machine.specs.Starting.{fits, same_folded, hat_field, is_stage_hat, is_stage_hat_of}
+use Rattle.machine_spec.specs.Script.{Statement, op_of}
+use Rattle.machine_spec.specs.declared.threads.Filter.{Filter}
+use Rattle.machine_spec.specs.declared.threads.Filter.TheVariants.{Broadcast, Backdrop, Key, Flag, CloneStart, Clicked}
+use Rattle.machine_spec.specs.Starting.{fits, same_folded, hat_field, is_stage_hat, is_stage_hat_of}
 use Rattle.hats.specs.Fitting.{is_click, in_round}
 
 no_fit : (f : Filter) (k : HatKind) (s : Statement) → k ≡ NoHat → fits f k s ≡ false

@@ -7,19 +7,19 @@ use Rattle.std.proofs.lemmas.List.{reverse-append}
 use Rattle.std.proofs.lemmas.List.Concat.{flat_map-cons}
 use Rattle.std.proofs.lemmas.List.Elements.{All-nil, All-cons, All-head, All-tail, All-same, All-append, All-filter, All-map, All-contains_itself}
 use Rattle.opcode_table.specs.declared.shape.Role.TheVariants as role
-use Rattle.script_machine.specs.declared.instance.Instance.{Instance}
-use Rattle.script_machine.specs.Script.{Statement}
-use Rattle.script_machine.specs.declared.threads.Filter.{Filter}
-use Rattle.script_machine.specs.declared.threads.Filter.TheVariants.{Broadcast, Backdrop, Key, Flag, CloneStart, Clicked}
-use Rattle.script_machine.specs.Program.{Head}
-use Rattle.script_machine.specs.Starting.{meant, pairs_of, pairs, starts}
-use Rattle.project_file.specs.declared.blocks.Block.{Block}
-use Rattle.project_file.specs.Linked.{has_role, is_head}
-use Rattle.project_file.specs.Trees.{Sheet, target_of_link, head_of, hat_at, heads_of}
+use Rattle.machine_spec.specs.declared.instance.Instance.{Instance}
+use Rattle.machine_spec.specs.Script.{Statement}
+use Rattle.machine_spec.specs.declared.threads.Filter.{Filter}
+use Rattle.machine_spec.specs.declared.threads.Filter.TheVariants.{Broadcast, Backdrop, Key, Flag, CloneStart, Clicked}
+use Rattle.machine_spec.specs.Program.{Head}
+use Rattle.machine_spec.specs.Starting.{meant, pairs_of, pairs, starts}
+use Rattle.project_spec.specs.declared.blocks.Block.{Block}
+use Rattle.project_spec.specs.Linked.{has_role, is_head}
+use Rattle.project_spec.specs.Trees.{Sheet, target_of_link, head_of, hat_at, heads_of}
 use Rattle.project_check.specs.declared.project.Project.{Project}
 use Rattle.project_check.specs.Loaded.{tables_of, sheet_at, program_of}
 use Rattle.project_check.proofs.Defining.{scripts_here}
-use Rattle.script_machine.specs.Places.{Places}
+use Rattle.machine_spec.specs.Places.{Places}
 use Rattle.thread_frames.specs.Threads.{Thread}
 use Rattle.hats.specs.Edges.{is_edge, free_edges}
 use Rattle.hats.specs.Heads.{IsHeadOf}

@@ -6,10 +6,10 @@ use Rattle.std.proofs.lemmas.List.Concat.{flat_map-cons}
 use Rattle.script_words.specs.declared.stops.Stop.{Stop}
 use Rattle.script_words.specs.declared.stops.Stop.TheVariants as stops
 use Rattle.opcode_table.specs.Kinds.{hat_kind}
-use Rattle.script_machine.specs.Script.{place_of, op_of}
-use Rattle.script_machine.specs.Program.{hat_block}
-use Rattle.script_machine.specs.Outcome.{Outcome, Goes, Full, TooLong, Spent, then_do, StopIs}
-use Rattle.script_machine.specs.Starting.{Handle, Pair, Crowd, restarts, placed, appended, joined, start_by, ignored_or_appended, start_one, start_all}
+use Rattle.machine_spec.specs.Script.{place_of, op_of}
+use Rattle.machine_spec.specs.Program.{hat_block}
+use Rattle.machine_spec.specs.Outcome.{Outcome, Goes, Full, TooLong, Spent, then_do, StopIs}
+use Rattle.machine_spec.specs.Starting.{Handle, Pair, Crowd, restarts, placed, appended, joined, start_by, ignored_or_appended, start_one, start_all}
 use Rattle.thread_frames.specs.Threads.{Thread, frames, is_of, is_alive_of, begins_with}
 use Rattle.hats.specs.declared.joining.Hat.{Hat}
 use Rattle.hats.specs.Started.{new_of, started}

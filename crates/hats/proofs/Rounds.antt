@@ -6,13 +6,13 @@ use Rattle.std.proofs.lemmas.List.{length-map, reverse-append, append-nil}
 use Rattle.std.proofs.lemmas.List.Concat.{flat_map-cons}
 use Rattle.std.proofs.lemmas.List.Elements.{filter-append}
 use Rattle.std.proofs.lemmas.Option.{slice_get_past}
-use Rattle.script_machine.specs.declared.instance.Instance.{Instance}
-use Rattle.script_machine.specs.Script.{Statement}
-use Rattle.script_machine.specs.declared.threads.Filter.{Filter}
-use Rattle.script_machine.specs.declared.threads.Filter.TheVariants.{Broadcast, Backdrop, Key, Flag, CloneStart, Clicked}
-use Rattle.script_machine.specs.Program.{Program, Scripts, scripts_at}
-use Rattle.script_machine.specs.Starting.{meant, pairs_of, pairs}
-use Rattle.project_file.specs.Trees.{scripts_of, sheet_of, sheets}
+use Rattle.machine_spec.specs.declared.instance.Instance.{Instance}
+use Rattle.machine_spec.specs.Script.{Statement}
+use Rattle.machine_spec.specs.declared.threads.Filter.{Filter}
+use Rattle.machine_spec.specs.declared.threads.Filter.TheVariants.{Broadcast, Backdrop, Key, Flag, CloneStart, Clicked}
+use Rattle.machine_spec.specs.Program.{Program, Scripts, scripts_at}
+use Rattle.machine_spec.specs.Starting.{meant, pairs_of, pairs}
+use Rattle.project_spec.specs.Trees.{scripts_of, sheet_of, sheets}
 use Rattle.project_check.specs.declared.project.Project.{Project}
 use Rattle.project_check.specs.Loaded.{tables_of, names_of, program_of}
 use Rattle.hats.specs.declared.starting.Round.{Round}

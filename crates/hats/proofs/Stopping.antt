@@ -7,11 +7,11 @@ use Rattle.script_words.specs.declared.stops.CounterKind.{CounterKind}
 use Rattle.script_words.specs.declared.stops.CounterKind.TheVariants as counter
 use Rattle.script_words.specs.declared.stops.Stop.{Stop}
 use Rattle.script_words.specs.declared.stops.Stop.TheVariants.{Stack, Text, Counter, NoMemory}
-use Rattle.script_machine.specs.Outcome.{Outcome, Goes, Full, TooLong, Spent, StopIs, then_do, with_number, with_room, last_number, most_levels}
-use Rattle.script_machine.specs.declared.threads.Which.TheVariants.{Slot}
-use Rattle.script_machine.specs.Places.{Places, on_place}
-use Rattle.script_machine.specs.Script.{op_of}
-use Rattle.script_machine.specs.Starting.{Handle, Pair, Crowd, open_levels, restarts, runs_at, replaced, replaced_at, placed, appended, joined, is_of, is_alive_of, new_thread, ignored_or_appended, start_by, start_one, start_all}
+use Rattle.machine_spec.specs.Outcome.{Outcome, Goes, Full, TooLong, Spent, StopIs, then_do, with_number, with_room, last_number, most_levels}
+use Rattle.machine_spec.specs.declared.threads.Which.TheVariants.{Slot}
+use Rattle.machine_spec.specs.Places.{Places, on_place}
+use Rattle.machine_spec.specs.Script.{op_of}
+use Rattle.machine_spec.specs.Starting.{Handle, Pair, Crowd, open_levels, restarts, runs_at, replaced, replaced_at, placed, appended, joined, is_of, is_alive_of, new_thread, ignored_or_appended, start_by, start_one, start_all}
 use Rattle.hats.specs.Stops.{IsOfThreadsOrMemory}
 
 -- an outcome that meets no other limits than these

@@ -3,9 +3,9 @@ use Rattle.std.proofs.Common.{◌≡◌, ℕ, ◌+◌, ◌<◌, ◌≤◌, List,
 use Rattle.std.specs.Prelude.{flat_map}
 use Rattle.std.proofs.lemmas.List.{reverse-append, drop_all, drop_more}
 use Rattle.script_words.specs.declared.stops.Stop.{Stop}
-use Rattle.script_machine.specs.Outcome.{Outcome, Goes, StopIs}
-use Rattle.script_machine.specs.Places.{Places}
-use Rattle.script_machine.specs.Starting.{Pair, Crowd, start_all}
+use Rattle.machine_spec.specs.Outcome.{Outcome, Goes, StopIs}
+use Rattle.machine_spec.specs.Places.{Places}
+use Rattle.machine_spec.specs.Starting.{Pair, Crowd, start_all}
 use Rattle.project_check.specs.declared.project.Project.{Project}
 use Rattle.thread_frames.specs.Threads.{Thread, frames}
 use Rattle.hats.specs.declared.joining.Numbers.{Numbers}

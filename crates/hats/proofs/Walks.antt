@@ -9,15 +9,15 @@ use Rattle.opcode_table.specs.declared.opcode.Opcode.{Opcode}
 use Rattle.opcode_table.specs.declared.shape.Role.TheVariants as role
 use Rattle.opcode_table.specs.Kinds.{hat_kind}
 use Rattle.opcode_table.proofs.Roles.{hat_only}
-use Rattle.script_machine.specs.declared.instance.Instance.{Instance}
-use Rattle.script_machine.specs.Script.{Statement, op_of}
-use Rattle.script_machine.specs.Program.{Head}
-use Rattle.script_machine.specs.Starting.{Pair, pairs_of}
-use Rattle.project_file.specs.declared.blocks.Block.{Block}
-use Rattle.project_file.specs.declared.blocks.Code.{Code}
-use Rattle.project_file.specs.declared.blocks.Code.TheVariants.{Known, Other}
-use Rattle.project_file.specs.Linked.{has_role, is_head}
-use Rattle.project_file.specs.Trees.{Sheet, op_by, statement, head_of, hat_at}
+use Rattle.machine_spec.specs.declared.instance.Instance.{Instance}
+use Rattle.machine_spec.specs.Script.{Statement, op_of}
+use Rattle.machine_spec.specs.Program.{Head}
+use Rattle.machine_spec.specs.Starting.{Pair, pairs_of}
+use Rattle.project_spec.specs.declared.blocks.Block.{Block}
+use Rattle.project_spec.specs.declared.blocks.Code.{Code}
+use Rattle.project_spec.specs.declared.blocks.Code.TheVariants.{Known, Other}
+use Rattle.project_spec.specs.Linked.{has_role, is_head}
+use Rattle.project_spec.specs.Trees.{Sheet, op_by, statement, head_of, hat_at}
 use Rattle.project_check.specs.declared.project.Project.{Project}
 use Rattle.project_check.specs.Heads.{head_number, head_numbers}
 use Rattle.project_check.specs.Loaded.{tables_of, blocks_at, sheet_at, program_of}

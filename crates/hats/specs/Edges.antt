@@ -3,12 +3,12 @@ pub use Rattle.hats.specs.declared.edge_hats.EdgeHat.{EdgeHat}
 use Rattle.std.specs.Prelude.{List, map, filter, Bool, not}
 use Rattle.std.specs.List.{list_any}
 use Rattle.opcode_table.specs.Kinds.{hat_kind}
-use Rattle.script_machine.specs.declared.instance.Instance.{Instance}
-use Rattle.script_machine.specs.Script.{Statement, op_of, place_of}
-use Rattle.script_machine.specs.Program.{Program, hat_block}
-use Rattle.script_machine.specs.Places.{Places}
-use Rattle.script_machine.specs.Starting.{Pair, pairs, is_alive_of}
-use Rattle.script_machine.specs.Frame.{is_edge_hat}
+use Rattle.machine_spec.specs.declared.instance.Instance.{Instance}
+use Rattle.machine_spec.specs.Script.{Statement, op_of, place_of}
+use Rattle.machine_spec.specs.Program.{Program, hat_block}
+use Rattle.machine_spec.specs.Places.{Places}
+use Rattle.machine_spec.specs.Starting.{Pair, pairs, is_alive_of}
+use Rattle.machine_spec.specs.Frame.{is_edge_hat}
 use Rattle.thread_frames.specs.Threads.{Thread, frames}
 
 -- the statement is an edge hat

@@ -1,10 +1,10 @@
 -- The instances that a filter speaks of, and the two rounds of a start; private functions alone cite this file.
 use Rattle.std.specs.Prelude.{◌==◌, Bool, true, false, not, ◌&&◌}
-use Rattle.script_machine.specs.declared.instance.Instance.{Instance}
-use Rattle.script_machine.specs.Script.{Statement}
-use Rattle.script_machine.specs.declared.threads.Filter.{Filter}
-use Rattle.script_machine.specs.declared.threads.Filter.TheVariants.{CloneStart, Clicked}
-use Rattle.script_machine.specs.Starting.{fits_hat, is_stage_hat_of}
+use Rattle.machine_spec.specs.declared.instance.Instance.{Instance}
+use Rattle.machine_spec.specs.Script.{Statement}
+use Rattle.machine_spec.specs.declared.threads.Filter.{Filter}
+use Rattle.machine_spec.specs.declared.threads.Filter.TheVariants.{CloneStart, Clicked}
+use Rattle.machine_spec.specs.Starting.{fits_hat, is_stage_hat_of}
 
 -- the filter speaks of the instance
 abbrev pub is_meant : Filter → Instance → Bool

@@ -1,14 +1,14 @@
 -- Hats of instances, as heads of the program of a project.
 use Rattle.std.specs.Prelude.{◌≡◌, ℕ, ◌<◌, true, List, length, slice_get, Some, Contains, All}
-use Rattle.script_machine.specs.declared.instance.Instance.{Instance}
-use Rattle.script_machine.specs.declared.threads.Filter.{Filter}
-use Rattle.script_machine.specs.Script.{place_of}
-use Rattle.script_machine.specs.Program.{hat_block}
-use Rattle.script_machine.specs.Places.{Places}
-use Rattle.script_machine.specs.Starting.{Pair, starts}
-use Rattle.project_file.specs.declared.blocks.Block.{Block}
-use Rattle.project_file.specs.Linked.{is_head}
-use Rattle.project_file.specs.Trees.{head_of, script}
+use Rattle.machine_spec.specs.declared.instance.Instance.{Instance}
+use Rattle.machine_spec.specs.declared.threads.Filter.{Filter}
+use Rattle.machine_spec.specs.Script.{place_of}
+use Rattle.machine_spec.specs.Program.{hat_block}
+use Rattle.machine_spec.specs.Places.{Places}
+use Rattle.machine_spec.specs.Starting.{Pair, starts}
+use Rattle.project_spec.specs.declared.blocks.Block.{Block}
+use Rattle.project_spec.specs.Linked.{is_head}
+use Rattle.project_spec.specs.Trees.{head_of, script}
 use Rattle.project_check.specs.declared.project.Project.{Project}
 use Rattle.project_check.specs.Loaded.{tables_of, blocks_at, sheet_at, program_of}
 use Rattle.thread_frames.specs.Threads.{Thread, begins_with}

@@ -1,11 +1,11 @@
 -- The rounds of a start, as the code goes through them; private functions alone cite this file.
 use Rattle.std.specs.Prelude.{ℕ, ◌<◌, ◌≤◌, ◌^◌, nat_lt, List, [], ◌∷◌, length, flat_map, reverse, slice_get, Bool, ◌&&◌, if◌then◌else◌, Option, Some, None}
-use Rattle.script_machine.specs.declared.instance.Instance.{Instance}
-use Rattle.script_machine.specs.Script.{Statement}
-use Rattle.script_machine.specs.Places.{Places, Everyone}
-use Rattle.script_machine.specs.Starting.{Pair, pairs_of}
-use Rattle.project_file.specs.declared.blocks.Block.{Block}
-use Rattle.project_file.specs.Trees.{statement, head_of}
+use Rattle.machine_spec.specs.declared.instance.Instance.{Instance}
+use Rattle.machine_spec.specs.Script.{Statement}
+use Rattle.machine_spec.specs.Places.{Places, Everyone}
+use Rattle.machine_spec.specs.Starting.{Pair, pairs_of}
+use Rattle.project_spec.specs.declared.blocks.Block.{Block}
+use Rattle.project_spec.specs.Trees.{statement, head_of}
 use Rattle.project_check.specs.declared.project.Project.{Project}
 use Rattle.project_check.specs.Loaded.{program_of, tables_of, blocks_at, sheet_at}
 use Rattle.thread_frames.specs.Fit.{Fits}

@@ -1,9 +1,9 @@
 -- A hat that is started, as the code has it at hand; private functions alone cite this file.
 use Rattle.std.specs.Prelude.{ℕ, position, Bool, not, ◌&&◌, if◌then◌else◌, Option}
 use Rattle.std.specs.List.{list_any}
-use Rattle.script_machine.specs.Outcome.{Outcome, Goes}
-use Rattle.script_machine.specs.Places.{Places}
-use Rattle.script_machine.specs.Starting.{Crowd, placed, appended, joined}
+use Rattle.machine_spec.specs.Outcome.{Outcome, Goes}
+use Rattle.machine_spec.specs.Places.{Places}
+use Rattle.machine_spec.specs.Starting.{Crowd, placed, appended, joined}
 use Rattle.thread_frames.specs.Threads.{Thread, frames, new_thread, is_of, is_alive_of}
 use Rattle.hats.specs.declared.joining.Hat.{Hat}
 use Rattle.hats.specs.declared.joining.Numbers.{Numbers}

@@ -4,19 +4,19 @@ ghost use Rattle.std.specs.Prelude.{◌≡◌, ◌<◌, ◌++◌, ◌&&◌, not,
 ghost use Rattle.std.specs.List.{list_any};
 ghost use Rattle.opcode_table.specs.Kinds.{hat_kind};
 ghost use Rattle.project_check.specs.Loaded.{program_of, tables_of};
-ghost use Rattle.project_file.specs.Trees.{op_by};
-ghost use Rattle.script_machine.specs.Frame.{is_edge_hat};
-ghost use Rattle.script_machine.specs.Starting.{pairs_of};
+ghost use Rattle.project_spec.specs.Trees.{op_by};
+ghost use Rattle.machine_spec.specs.Frame.{is_edge_hat};
+ghost use Rattle.machine_spec.specs.Starting.{pairs_of};
 ghost use Rattle.thread_frames.specs.Threads.{is_alive_of};
 ghost use Rattle.hats.specs.Edges.{is_edge, edge_of, free_edges, among};
 ghost use Rattle.hats.specs.Rounds.{passing_by, passing_at};
 
 use crate::fitting::{is_there, kind_of};
 use lists::ListOf;
+use machine_spec::{BlockId, Instance, InstanceId, TargetId};
 use opcode_table::HatKind;
 use project_check::Project;
-use project_file::Block;
-use script_machine::{BlockId, Instance, InstanceId, TargetId};
+use project_spec::Block;
 use std::alloc::{AllocError, Global};
 use targets::Targets;
 use thread_frames::Threads;

@@ -2,10 +2,10 @@
 
 ghost use Rattle.std.specs.Prelude.{◌≡◌, ℕ, ◌<◌, ◌≤◌, ◌^◌, ◌∷◌, [], None, IfOk};
 ghost use Rattle.project_check.specs.Loaded.{sheet_at};
-ghost use Rattle.project_file.specs.Trees.{Sheet};
-ghost use Rattle.script_machine.specs.Outcome.{Goes, StopIs};
-ghost use Rattle.script_machine.specs.Places.{Everyone};
-ghost use Rattle.script_machine.specs.Starting.{Pair, start_all};
+ghost use Rattle.project_spec.specs.Trees.{Sheet};
+ghost use Rattle.machine_spec.specs.Outcome.{Goes, StopIs};
+ghost use Rattle.machine_spec.specs.Places.{Everyone};
+ghost use Rattle.machine_spec.specs.Starting.{Pair, start_all};
 ghost use Rattle.thread_frames.specs.Fit.{Fits, IsHeld};
 ghost use Rattle.thread_frames.specs.Threads.{frames};
 ghost use Rattle.hats.specs.Heads.{IsEdge, IsEdgeOf};
@@ -14,8 +14,8 @@ ghost use Rattle.hats.specs.Started.{started};
 use crate::edge_hats::EdgeHat;
 use crate::fitting::{kind_of, next_of, restarts};
 use crate::joining::{Hat, Numbers, start_hat};
+use machine_spec::Serials;
 use project_check::Project;
-use script_machine::Serials;
 use script_words::Stop;
 use std::alloc::Global;
 use thread_frames::Threads;

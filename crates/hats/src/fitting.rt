@@ -3,18 +3,18 @@
 ghost use Rattle.std.specs.Prelude.{◌≡◌, ℕ, nat_lt, length, map, option_map};
 ghost use Rattle.opcode_table.specs.Kinds.{hat_kind as kind_by};
 ghost use Rattle.project_check.specs.Loaded.{tables_of};
-ghost use Rattle.project_file.specs.Trees.{Sheet, statement, op_by, target_of_link};
+ghost use Rattle.project_spec.specs.Trees.{Sheet, statement, op_by, target_of_link};
 ghost use Rattle.scratch_values.specs.Named.{item_named};
-ghost use Rattle.script_machine.specs.Starting as machine;
+ghost use Rattle.machine_spec.specs.Starting as machine;
 ghost use Rattle.hats.specs.Fitting.{is_meant as is_meant_by, is_click as is_click_by, in_round as in_round_by};
 
 use caseless::default_caseless_match_str;
+use machine_spec::{BlockId, Filter, Instance};
 use opcode_table::{HatKind, hat_kind};
 use project_check::Project;
-use project_file::{Block, Code, Link};
 use project_json::Text;
+use project_spec::{Block, Code, Link};
 use scratch_values::VarName;
-use script_machine::{BlockId, Filter, Instance};
 
 // The kind of the hat that a block is.
 pub(crate) fn kind_of(block: &Block) -> HatKind

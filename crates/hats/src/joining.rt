@@ -1,16 +1,16 @@
 //! The thread of one hat.
 
 ghost use Rattle.std.specs.Prelude.{◌≡◌, ℕ, ◌<◌, ◌≤◌, ◌^◌, slice_get, position, Some, IfSome, OnOk, OnErr};
-ghost use Rattle.project_file.specs.Trees.{Sheet};
-ghost use Rattle.script_machine.specs.Outcome.{Goes, StopIs};
-ghost use Rattle.script_machine.specs.Places.{Everyone};
-ghost use Rattle.script_machine.specs.Starting as machine;
+ghost use Rattle.project_spec.specs.Trees.{Sheet};
+ghost use Rattle.machine_spec.specs.Outcome.{Goes, StopIs};
+ghost use Rattle.machine_spec.specs.Places.{Everyone};
+ghost use Rattle.machine_spec.specs.Starting as machine;
 ghost use Rattle.thread_frames.specs.Fit.{Fits, IsHeld};
 ghost use Rattle.thread_frames.specs.Stops.{PushStopIs};
 ghost use Rattle.thread_frames.specs.Threads.{frames, is_of};
 ghost use Rattle.hats.specs.Started.{crowd_of, new_of, entered, is_ignored as is_ignored_by, started};
 
-use script_machine::{BlockId, InstanceId, Serial, Serials, TargetId, Which};
+use machine_spec::{BlockId, InstanceId, Serial, Serials, TargetId, Which};
 use script_words::{CounterKind, Stop};
 use thread_frames::{PushStop, Threads};
 

@@ -2,10 +2,10 @@
 
 ghost use Rattle.std.specs.Prelude.{◌≡◌, ℕ, ◌<◌, ◌≤◌, ◌^◌, [], length, slice_get, true, false, Some, IfOk, IfErr, OnOk};
 ghost use Rattle.project_check.specs.Loaded.{program_of, tables_of, blocks_at, sheet_at};
-ghost use Rattle.project_file.specs.Linked.{IsClosed};
-ghost use Rattle.script_machine.specs.Outcome.{Goes, StopIs};
-ghost use Rattle.script_machine.specs.Places.{Everyone};
-ghost use Rattle.script_machine.specs.Starting.{start_all, starts, pairs, meant};
+ghost use Rattle.project_spec.specs.Linked.{IsClosed};
+ghost use Rattle.machine_spec.specs.Outcome.{Goes, StopIs};
+ghost use Rattle.machine_spec.specs.Places.{Everyone};
+ghost use Rattle.machine_spec.specs.Starting.{start_all, starts, pairs, meant};
 ghost use Rattle.thread_frames.specs.Fit.{Fits};
 ghost use Rattle.thread_frames.specs.Threads.{frames};
 ghost use Rattle.hats.specs.Fitting.{in_round};
@@ -15,9 +15,9 @@ ghost use Rattle.hats.specs.Rounds.{passes, hats_in, hats_of, hats_by, hats_at, 
 
 use crate::fitting::{is_click, is_in_round, is_meant, is_there, kind_of, next_of, restarts};
 use crate::joining::{Hat, Numbers, start_hat};
+use machine_spec::{BlockId, Filter, Instance, Serials};
 use project_check::Project;
-use project_file::Block;
-use script_machine::{BlockId, Filter, Instance, Serials};
+use project_spec::Block;
 use script_words::Stop;
 use std::alloc::Global;
 use targets::Targets;

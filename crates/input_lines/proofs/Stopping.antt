@@ -3,24 +3,24 @@ use Rattle.std.proofs.Common.{◌≡◌, ℕ, Bool, true, false, if◌then◌els
 use Rattle.std.specs.Prelude.{codes, is_some, slice_get, Result, IfErr}
 use Rattle.script_words.specs.declared.stops.CounterKind.TheVariants as counter
 use Rattle.script_words.specs.declared.stops.Stop.{Stop}
-use Rattle.script_machine.specs.declared.bubble.Say.{Say}
-use Rattle.script_machine.specs.declared.instance.Instance.{Instance}
-use Rattle.script_machine.specs.declared.devices.Question.{Question}
-use Rattle.script_machine.specs.declared.threads.Filter.{Filter}
-use Rattle.script_machine.specs.declared.threads.Filter.TheVariants.{Key as KeyHats, Flag, Clicked}
-use Rattle.script_machine.specs.declared.devices.Key.{Key}
-use Rattle.script_machine.specs.declared.lines.Line.{Line}
-use Rattle.script_machine.specs.declared.lines.Line.TheVariants as line
-use Rattle.script_machine.specs.ControlRows.{question_shown}
-use Rattle.script_machine.specs.Line.{started, key_down, key_name, clicked, answered, reset, with_answer, after}
-use Rattle.script_machine.specs.Outcome.{Outcome, Goes, StopIs, with_number}
-use Rattle.script_machine.specs.Parts.{Scene, bubble_set, bubble_updated}
-use Rattle.script_machine.specs.Program.{Program}
-use Rattle.script_machine.specs.Starting.{starts}
-use Rattle.script_machine.specs.Stopping.{scene_of, bubble_emptied, first_taken}
-use Rattle.script_machine.specs.Stores.{live}
-use Rattle.script_machine.specs.Tasks.{Task, tasks, begin}
-use Rattle.script_machine.specs.World.{World}
+use Rattle.machine_spec.specs.declared.bubble.Say.{Say}
+use Rattle.machine_spec.specs.declared.instance.Instance.{Instance}
+use Rattle.machine_spec.specs.declared.devices.Question.{Question}
+use Rattle.machine_spec.specs.declared.threads.Filter.{Filter}
+use Rattle.machine_spec.specs.declared.threads.Filter.TheVariants.{Key as KeyHats, Flag, Clicked}
+use Rattle.machine_spec.specs.declared.devices.Key.{Key}
+use Rattle.machine_spec.specs.declared.lines.Line.{Line}
+use Rattle.machine_spec.specs.declared.lines.Line.TheVariants as line
+use Rattle.machine_spec.specs.ControlRows.{question_shown}
+use Rattle.machine_spec.specs.Line.{started, key_down, key_name, clicked, answered, reset, with_answer, after}
+use Rattle.machine_spec.specs.Outcome.{Outcome, Goes, StopIs, with_number}
+use Rattle.machine_spec.specs.Parts.{Scene, bubble_set, bubble_updated}
+use Rattle.machine_spec.specs.Program.{Program}
+use Rattle.machine_spec.specs.Starting.{starts}
+use Rattle.machine_spec.specs.Stopping.{scene_of, bubble_emptied, first_taken}
+use Rattle.machine_spec.specs.Stores.{live}
+use Rattle.machine_spec.specs.Tasks.{Task, tasks, begin}
+use Rattle.machine_spec.specs.World.{World}
 use Rattle.hats.proofs.Stopping.{Meets, stop_of, then_meets, number_meets, all_meets}
 use Rattle.input_lines.specs.Frames.{is_frame}
 use Rattle.input_lines.specs.Stops.{IsOfLinesOrMemory}

@@ -1,18 +1,18 @@
 //! The green flag.
 
 ghost use Rattle.std.specs.Prelude.{◌≡◌, [], IfOk};
-ghost use Rattle.script_machine.specs.Line as machine;
-ghost use Rattle.script_machine.specs.Outcome.{Goes, StopIs};
-ghost use Rattle.script_machine.specs.declared.threads.Filter.TheVariants as filter;
+ghost use Rattle.machine_spec.specs.Line as machine;
+ghost use Rattle.machine_spec.specs.Outcome.{Goes, StopIs};
+ghost use Rattle.machine_spec.specs.declared.threads.Filter.TheVariants as filter;
 ghost use Rattle.project_check.specs.Loaded.{program_of};
 ghost use Rattle.executions.specs.Resting.{IsIdle};
 ghost use Rattle.executions.specs.Seen.{seen};
 
 use executions::State;
+use machine_spec::Filter;
 use project_check::Project;
 use project_json::Text;
 use scratch_values::BoundText;
-use script_machine::Filter;
 use script_words::{Rng, Stop};
 use std::alloc::Global;
 

@@ -1,8 +1,8 @@
 //! What a line does.
 
 ghost use Rattle.std.specs.Prelude.{◌≡◌, false, IfErr, IfOk};
-ghost use Rattle.script_machine.specs.Line as machine;
-ghost use Rattle.script_machine.specs.Outcome.{Goes, StopIs};
+ghost use Rattle.machine_spec.specs.Line as machine;
+ghost use Rattle.machine_spec.specs.Outcome.{Goes, StopIs};
 ghost use Rattle.project_check.specs.Loaded.{program_of};
 ghost use Rattle.executions.specs.Resting.{IsIdle};
 ghost use Rattle.executions.specs.Seen.{seen};
@@ -13,10 +13,10 @@ use crate::clicks::click;
 use crate::flags::flag;
 use crate::keys::press;
 use executions::State;
+use machine_spec::Line;
 use project_check::Project;
 use promises::answer;
 use scratch_values::BoundText;
-use script_machine::Line;
 use script_words::{Rng, Stop};
 use std::alloc::Global;
 

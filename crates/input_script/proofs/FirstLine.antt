@@ -7,7 +7,7 @@ use Rattle.std.proofs.Math.Seq.{drop-length}
 use Rattle.std.proofs.lemmas.Iterator.Adapters.{position_from-zero}
 use Rattle.std.proofs.lemmas.Bool.Decides.{nat_tests}
 use Rattle.std.specs.List.{position_from, position_or_len, before_first, after_first, slice_split, onto_first}
-use Rattle.script_machine.specs.ScriptText.{with_byte, lines_of}
+use Rattle.machine_spec.specs.ScriptText.{with_byte, lines_of}
 
 split_one : (b : Bool) (x : ℕ) (xs : List ℕ) (n : ℕ) (parts : List (List ℕ)) → cond (not b) (1 + n) 0 ≡ length (x ∷ xs) → (n ≡ length xs → parts ≡ xs ∷ []) → cond b ([] ∷ parts) (onto_first x parts) ≡ (x ∷ xs) ∷ []
 split_one true x xs n parts h k = absurd (omega arith)

@@ -4,13 +4,13 @@ use Rattle.std.specs.Prelude.{bytes_eq, codes, nat_le, nat_lt, ℤ}
 use Rattle.std.proofs.lemmas.Bool.Decides.{nat_tests}
 use Rattle.std.specs.Str.{is_utf8}
 use Rattle.scratch_values.specs.Longest.{longest}
-use Rattle.script_machine.specs.declared.devices.Key.{Key}
-use Rattle.script_machine.specs.declared.lines.Budget.{Budget}
-use Rattle.script_machine.specs.declared.lines.Line.{Line}
-use Rattle.script_machine.specs.declared.lines.Line.TheVariants as line
-use Rattle.script_machine.specs.declared.lines.LineRefusal.{LineRefusal}
-use Rattle.script_machine.specs.declared.lines.LineRefusal.TheVariants.{ClockBack, OutOfRange}
-use Rattle.script_machine.specs.ScriptText.{Reading, Good, Refused, reading_of, text_reading, by_first_word, by_words, words_of, first_of, rest_of, whole_number, signed_number, mouse_line, frame_line, click_line, forward, is_budget, good_if, key_line, key_of_rest}
+use Rattle.machine_spec.specs.declared.devices.Key.{Key}
+use Rattle.machine_spec.specs.declared.lines.Budget.{Budget}
+use Rattle.machine_spec.specs.declared.lines.Line.{Line}
+use Rattle.machine_spec.specs.declared.lines.Line.TheVariants as line
+use Rattle.machine_spec.specs.declared.lines.LineRefusal.{LineRefusal}
+use Rattle.machine_spec.specs.declared.lines.LineRefusal.TheVariants.{ClockBack, OutOfRange}
+use Rattle.machine_spec.specs.ScriptText.{Reading, Good, Refused, reading_of, text_reading, by_first_word, by_words, words_of, first_of, rest_of, whole_number, signed_number, mouse_line, frame_line, click_line, forward, is_budget, good_if, key_line, key_of_rest}
 use Rattle.input_script.proofs.Kept.{and_first, and_second}
 use Rattle.input_script.specs.Reader.{IsForward, IsBudget}
 

@@ -3,9 +3,9 @@ use Rattle.std.proofs.Common.{◌≡◌, ℕ, zero, suc, ◌*◌, ◌^◌, ◌<�
 use Rattle.std.specs.Prelude.{◌==◌, ◌&&◌, nat_le, ℤ, pos, negsuc, neg_ℤ, option_map}
 use Rattle.std.proofs.lemmas.Bool.Decides.{nat_tests}
 use Rattle.std.proofs.lemmas.Int.{ints}
-use Rattle.script_machine.specs.declared.lines.Budget.{Budget}
-use Rattle.script_machine.specs.declared.lines.Line.TheVariants as line
-use Rattle.script_machine.specs.ScriptText.{whole_number, negated_number, signed_number, mouse_line, frame_line, budget_line, is_budget, is_within, good_if}
+use Rattle.machine_spec.specs.declared.lines.Budget.{Budget}
+use Rattle.machine_spec.specs.declared.lines.Line.TheVariants as line
+use Rattle.machine_spec.specs.ScriptText.{whole_number, negated_number, signed_number, mouse_line, frame_line, budget_line, is_budget, is_within, good_if}
 use Rattle.input_script.specs.Kept.{kept_within}
 
 -- Whole numbers

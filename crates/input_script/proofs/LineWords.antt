@@ -4,10 +4,10 @@ use Rattle.std.specs.Prelude.{IfOk}
 use Rattle.std.specs.List.{onto_first, after_first}
 use Rattle.std.specs.Str.{IsUtf8, is_utf8}
 use Rattle.std.proofs.lemmas.Str.{is_utf8-from_IsUtf8, IsUtf8-from_is_utf8}
-use Rattle.script_machine.specs.declared.lines.Line.{Line}
-use Rattle.script_machine.specs.declared.lines.LineRefusal.{LineRefusal}
-use Rattle.script_machine.specs.declared.lines.LineRefusal.TheVariants.{NotUtf8, UnknownLine}
-use Rattle.script_machine.specs.ScriptText.{Reading, Good, Refused, words_of, first_of, rest_of, by_words, by_first_word, unknown, text_reading, reading_of}
+use Rattle.machine_spec.specs.declared.lines.Line.{Line}
+use Rattle.machine_spec.specs.declared.lines.LineRefusal.{LineRefusal}
+use Rattle.machine_spec.specs.declared.lines.LineRefusal.TheVariants.{NotUtf8, UnknownLine}
+use Rattle.machine_spec.specs.ScriptText.{Reading, Good, Refused, words_of, first_of, rest_of, by_words, by_first_word, unknown, text_reading, reading_of}
 use Rattle.input_script.specs.FirstWord.{by_rest}
 use Rattle.input_script.specs.Reader.{Refuses}
 

@@ -5,8 +5,8 @@ use Rattle.std.specs.Char.{is_whitespace, to_ascii_uppercase}
 use Rattle.std.specs.Str.{IsUtf8}
 use Rattle.std.proofs.lemmas.Str.{chars_past_char}
 use lib.Utf8.{encode}
-use Rattle.script_machine.specs.declared.devices.Key.TheVariants.{One}
-use Rattle.script_machine.specs.ScriptText.{one_key}
+use Rattle.machine_spec.specs.declared.devices.Key.TheVariants.{One}
+use Rattle.machine_spec.specs.ScriptText.{one_key}
 
 pub key_past_char : (text rest : List ℕ) (c : ℕ) → IsUtf8 text → text ≡ encode c ++ rest → one_key (chars text) ≡ one_key (c ∷ chars rest)
 key_past_char text rest c u e = ap one_key (chars_past_char text rest c u e)

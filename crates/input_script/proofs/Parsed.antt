@@ -7,7 +7,7 @@ use Rattle.std.specs.Str.{all_ascii_digits}
 use Rattle.std.specs.Str.Parse.{digits_value, ParsesUnsigned}
 use Rattle.std.proofs.lemmas.Str.Parse.{IsNumeralModel, numerals_by_value, tells_all_ascii_digits, parse_digits}
 use Rattle.std.proofs.lemmas.Bool.{cases_lt}
-use Rattle.script_machine.specs.ScriptText.{whole_number}
+use Rattle.machine_spec.specs.ScriptText.{whole_number}
 use Rattle.input_script.specs.Kept.{is_whole}
 
 -- digits, tested one by one

@@ -1,7 +1,7 @@
 -- A line by its first word and what follows the first space; private functions alone cite it.
 use Rattle.std.specs.Prelude.{ℕ, if◌then◌else◌, List, ◌∷◌, bytes_eq, codes}
-use Rattle.script_machine.specs.declared.lines.Line.TheVariants as line
-use Rattle.script_machine.specs.ScriptText.{Reading, key_line, key_of_rest, answer_line, by_words, words_of}
+use Rattle.machine_spec.specs.declared.lines.Line.TheVariants as line
+use Rattle.machine_spec.specs.ScriptText.{Reading, key_line, key_of_rest, answer_line, by_words, words_of}
 
 -- a key and an answer take the rest as it is
 abbrev pub by_rest : (n last : ℕ) → (word rest : List ℕ) → Reading

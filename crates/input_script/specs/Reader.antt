@@ -1,12 +1,12 @@
 -- Where the reader of an input script stands, what it reads next, and what it answers. docs/formats.md has the lines.
 use Rattle.std.specs.Prelude.{◌≡◌, ℕ, ◌==◌, ◌+◌, ◌≤◌, ◌^◌, ◌*◌, List, [], ◌∷◌, drop, Option, None, Some, Result, Ok, Err}
 use Rattle.std.specs.List.{after_first, before_first}
-use Rattle.script_machine.specs.declared.lines.Budget.{Budget}
-use Rattle.script_machine.specs.declared.lines.Line.{Line}
-use Rattle.script_machine.specs.declared.lines.Line.TheVariants.{Frame}
-use Rattle.script_machine.specs.declared.lines.LineRefusal.{LineRefusal}
-use Rattle.script_machine.specs.declared.lines.LineRefusal.TheVariants.{NotUtf8, UnknownLine, BadNumber, OutOfRange, ClockBack, NoMemory}
-use Rattle.script_machine.specs.ScriptText.{Reading, Good, Refused, reading_of, clock_after, lines_of}
+use Rattle.machine_spec.specs.declared.lines.Budget.{Budget}
+use Rattle.machine_spec.specs.declared.lines.Line.{Line}
+use Rattle.machine_spec.specs.declared.lines.Line.TheVariants.{Frame}
+use Rattle.machine_spec.specs.declared.lines.LineRefusal.{LineRefusal}
+use Rattle.machine_spec.specs.declared.lines.LineRefusal.TheVariants.{NotUtf8, UnknownLine, BadNumber, OutOfRange, ClockBack, NoMemory}
+use Rattle.machine_spec.specs.ScriptText.{Reading, Good, Refused, reading_of, clock_after, lines_of}
 
 -- the bytes that are left, the lines in them, how many were read, and the last clock reading
 pub record Reader : Type 0 where

@@ -2,7 +2,7 @@
 
 ghost use Rattle.std.specs.Prelude.{◌≡◌, ◌<◌, ◌==◌, [], ◌∷◌, length, IfNone, IfSome};
 ghost use Rattle.std.specs.List.{position_from, position_or_len, after_first};
-ghost use Rattle.script_machine.specs.ScriptText.{lines_of, words_of};
+ghost use Rattle.machine_spec.specs.ScriptText.{lines_of, words_of};
 ghost use Rattle.input_script.specs.Reader.{behind_line, line_in};
 
 // The place of the first line end.

@@ -1,10 +1,10 @@
 //! Keys as a line names them.
 
 ghost use Rattle.std.specs.Prelude.{◌≡◌, chars};
-ghost use Rattle.script_machine.specs.ScriptText.{one_key, key_of_rest};
-ghost use Rattle.script_machine.specs.Sensing.{key_named};
+ghost use Rattle.machine_spec.specs.ScriptText.{one_key, key_of_rest};
+ghost use Rattle.machine_spec.specs.Sensing.{key_named};
 
-use script_machine::Key;
+use machine_spec::Key;
 
 // The key of a name.
 fn named(text: &str) -> Option<Key>

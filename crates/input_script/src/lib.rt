@@ -9,5 +9,5 @@ mod reading;
 mod script;
 mod words;
 
+pub use machine_spec::{Budget, Key, Line, LineRefusal};
 pub use script::Script;
-pub use script_machine::{Budget, Key, Line, LineRefusal};

@@ -2,7 +2,7 @@
 
 ghost use Rattle.std.specs.Prelude.{◌≡◌, ◌≤◌, ◌<◌, ◌^◌, min, pos, IfSome, option_map};
 ghost use Rattle.std.specs.Str.{all_ascii_digits};
-ghost use Rattle.script_machine.specs.ScriptText.{whole_number, negated_number, signed_number};
+ghost use Rattle.machine_spec.specs.ScriptText.{whole_number, negated_number, signed_number};
 ghost use Rattle.input_script.specs.Kept.{is_whole, kept_within};
 
 fn all_digits(word: &[u8]) -> bool

@@ -1,11 +1,11 @@
 //! Lines with numbers, each in its range.
 
 ghost use Rattle.std.specs.Prelude.{◌≡◌, Some, IfOk, IfSome};
-ghost use Rattle.script_machine.specs.ScriptText.{Good, mouse_line, click_line, frame_line, signed_number, whole_number};
+ghost use Rattle.machine_spec.specs.ScriptText.{Good, mouse_line, click_line, frame_line, signed_number, whole_number};
 ghost use Rattle.input_script.specs.Reader.{Refuses};
 
 use crate::numbers::{signed_number, whole_number};
-use script_machine::{Budget, Line, LineRefusal};
+use machine_spec::{Budget, Line, LineRefusal};
 
 const MAX_CLOCK: u64 = 9_000_000_000_000;
 

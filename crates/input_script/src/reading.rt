@@ -1,7 +1,7 @@
 //! One line of a script, as it is read.
 
 ghost use Rattle.std.specs.Prelude.{◌≡◌, ◌∷◌, [], Some, IfOk};
-ghost use Rattle.script_machine.specs.ScriptText.{Good, reading_of, text_reading, by_first_word, by_words, first_of, rest_of, words_of};
+ghost use Rattle.machine_spec.specs.ScriptText.{Good, reading_of, text_reading, by_first_word, by_words, first_of, rest_of, words_of};
 ghost use Rattle.input_script.specs.FirstWord.{by_rest};
 ghost use Rattle.input_script.specs.Reader.{Refuses};
 
@@ -9,7 +9,7 @@ use crate::cuts::cut;
 use crate::words::{
     answer, four_words, key_down, key_up, one_word, three_words, two_words, unknown,
 };
-use script_machine::{Line, LineRefusal};
+use machine_spec::{Line, LineRefusal};
 use std::alloc::Global;
 
 // A line of four words or more; the fourth and those behind it are in `rest`.

@@ -1,12 +1,12 @@
 //! The reader of an input script, line by line.
 
 ghost use Rattle.std.specs.Prelude.{◌≡◌, ◌<◌, IfOk, OnErr, IfSome, option_map, length};
-ghost use Rattle.script_machine.specs.ScriptText as text;
+ghost use Rattle.machine_spec.specs.ScriptText as text;
 ghost use Rattle.input_script.specs.Reader.{IsForward, IsLineBefore, Refuses, next_reading, reader_after};
 
 use crate::cuts::first_line;
 use crate::reading::reading_of;
-use script_machine::{Line, LineRefusal};
+use machine_spec::{Line, LineRefusal};
 use std::alloc::Global;
 use std::marker::Model;
 
@@ -22,7 +22,7 @@ pub struct Script<'a> {
 
 impl<'a> Model for Script<'a> {
     ghost use Rattle.std.specs.Prelude.{◌+◌, ◌<◌, ◌^◌, length};
-    ghost use Rattle.script_machine.specs.ScriptText.{lines_of};
+    ghost use Rattle.machine_spec.specs.ScriptText.{lines_of};
     ghost use Rattle.input_script.specs.Reader.{Reader};
 
     ghost Value = { Reader };

@@ -1,14 +1,14 @@
 //! Lines by their words.
 
 ghost use Rattle.std.specs.Prelude.{◌≡◌, ◌∷◌, [], Some, IfOk, IfSome};
-ghost use Rattle.script_machine.specs.ScriptText.{Good, by_words, one_word, two_words, words_of, answer_line, key_line, key_of_rest};
-ghost use Rattle.script_machine.specs.declared.lines.Line.TheVariants as line;
+ghost use Rattle.machine_spec.specs.ScriptText.{Good, by_words, one_word, two_words, words_of, answer_line, key_line, key_of_rest};
+ghost use Rattle.machine_spec.specs.declared.lines.Line.TheVariants as line;
 ghost use Rattle.input_script.specs.Reader.{Refuses};
 
 use crate::keys::key;
 use crate::ranges::{click, frame, mouse};
+use machine_spec::{Line, LineRefusal};
 use scratch_values::BoundText;
-use script_machine::{Line, LineRefusal};
 use std::alloc::Global;
 
 // A line that is not known.

@@ -1,8 +1,8 @@
 //! Mutations of prototypes and calls, and those that are refused.
 
 use mutations::{FilePrototype, read_call, read_prototype};
-use project_file::{FileValue, MutationRefusal};
 use project_json::{Json, Text, read};
+use project_spec::{FileValue, MutationRefusal};
 use std::alloc::Global;
 use std::process::Abort;
 

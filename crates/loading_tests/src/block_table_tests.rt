@@ -5,11 +5,11 @@ ghost use Rattle.project_json.specs.View.{tree as tree_of};
 ghost use Rattle.block_table.specs.Table.{IsSmall};
 
 use block_table::{BlockRefusal, BlockTable, build, read_table};
+use json_shapes::{Fault, Place};
+use machine_spec::BlockId;
 use opcode_table::Opcode;
-use project_file::{Block, Code, Input, Link, Mutation};
 use project_json::{Json, Text, members_of, read};
-use script_machine::BlockId;
-use shapes::{Fault, Place};
+use project_spec::{Block, Code, Input, Link, Mutation};
 use std::alloc::{AllocError, Global};
 use std::process::Abort;
 

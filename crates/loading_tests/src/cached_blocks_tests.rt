@@ -3,11 +3,11 @@
 use block_table::{BlockTable, build};
 use cached_blocks::{CachedBlock, CachedBlocks, cache_blocks};
 use lists::ListOf;
+use machine_spec::BlockId;
 use opcode_table::Opcode;
-use project_file::{Operand, Resolved};
 use project_json::{Text, members_of, read};
+use project_spec::{Operand, Resolved};
 use scratch_values::{Value, VarRef};
-use script_machine::BlockId;
 use std::alloc::Global;
 use std::process::Abort;
 

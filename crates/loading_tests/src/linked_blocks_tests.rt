@@ -1,9 +1,9 @@
 //! Worked rows: the blocks of targets as their files have them, and what they are told.
 
+use block_checks::test_blocks;
 use block_table::{BlockTable, build};
-use linked_blocks::test_blocks;
-use project_file::Refusal;
 use project_json::{Text, members_of, read};
+use project_spec::Refusal;
 use std::alloc::{AllocError, Global};
 use std::process::Abort;
 

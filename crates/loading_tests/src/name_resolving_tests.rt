@@ -6,13 +6,13 @@ ghost use Rattle.target_records.specs.Records.{records_in};
 ghost use Rattle.name_resolving.specs.Room.{HasRoom, parts};
 
 use block_table::{BlockTable, read_table};
+use json_shapes::Place;
 use lists::ListOf;
+use machine_spec::TargetId;
 use name_resolving::{ResolvedNames, resolve};
-use project_file::{Block, Resolved};
 use project_json::members_of;
+use project_spec::{Block, Resolved};
 use scratch_values::VarRef;
-use script_machine::TargetId;
-use shapes::Place;
 use std::process::Abort;
 use target_records::Records;
 

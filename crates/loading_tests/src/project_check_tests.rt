@@ -1,9 +1,9 @@
 //! What the loader says of projects.
 
+use machine_spec::{BlockId, TargetId};
 use project_check::{Project, load};
-use project_file::{At, MutationRefusal, Refusal};
 use project_json::JsonRefusal;
-use script_machine::{BlockId, TargetId};
+use project_spec::{At, MutationRefusal, Refusal};
 use std::alloc::{AllocError, Global};
 use std::process::Abort;
 

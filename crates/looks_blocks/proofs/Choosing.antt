@@ -5,7 +5,7 @@ use Rattle.scratch_values.specs.Comparison.{numeric}
 use Rattle.scratch_values.specs.Value.{text_of}
 use Rattle.scratch_values.specs.declared.value.Value.{Value}
 use Rattle.scratch_values.specs.declared.value.Value.TheVariants.{Truth, Text}
-use Rattle.script_machine.specs.Costume.{Choice, by_name, by_number, by_words, choice}
+use Rattle.machine_spec.specs.Costume.{Choice, by_name, by_number, by_words, choice}
 
 -- the first rule that fits the text of a value
 abbrev pub by_text : Bool → List (List ℕ) → ℕ → Value → Choice

@@ -2,8 +2,8 @@
 use Rattle.std.proofs.Common.{◌≡◌, ℕ, List, Option, Some, None, get_or, set, refl, sym, ap, ◌∙◌}
 use Rattle.std.specs.Prelude.{◌==◌}
 use Rattle.std.specs.List.{position}
-use Rattle.script_machine.specs.declared.instance.Instance.{Instance}
-use Rattle.script_machine.specs.Stores.{instance_at, on_instance, no_instance}
+use Rattle.machine_spec.specs.declared.instance.Instance.{Instance}
+use Rattle.machine_spec.specs.Stores.{instance_at, on_instance, no_instance}
 use Rattle.targets.proofs.Cast.{instance_at_is, on_instance_is, on_instance_none}
 
 by_place : (n : ℕ) (f g : Instance → Instance) (is : List Instance) (o : Option ℕ) → position (λ i. i.number == n) is ≡ o

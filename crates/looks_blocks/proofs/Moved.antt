@@ -6,9 +6,9 @@ use Rattle.std.specs.Option.{option_or}
 use Rattle.std.proofs.lemmas.List.{set-get_or, set_split, take-append-drop}
 use Rattle.std.proofs.lemmas.List.Folds.{find-append}
 use Rattle.std.proofs.lemmas.List.Sums.{sum_by-append, sum_by-cons, sum_by-insert, sum_by-remove, sum_by-take-le}
-use Rattle.script_machine.specs.declared.instance.Instance.{Instance}
-use Rattle.script_machine.specs.Looks.{at_layer, layer}
-use Rattle.script_machine.specs.Stores.{instance_at, no_instance}
+use Rattle.machine_spec.specs.declared.instance.Instance.{Instance}
+use Rattle.machine_spec.specs.Looks.{at_layer, layer}
+use Rattle.machine_spec.specs.Stores.{instance_at, no_instance}
 use Rattle.targets.specs.Layers.{layer_to}
 use Rattle.targets.specs.Live.{IsLive, IsSameCast, numbers, target_of}
 use Rattle.targets.specs.declared.layers.Place.{Place}

@@ -5,7 +5,7 @@ use Rattle.std.proofs.lemmas.Fmt.{decimal_digit}
 use Rattle.std.specs.Prelude.{ℤ, pos, negsuc, neg_ℤ, ◌<ℤ◌, ◌≤ℤ◌, unsigned_abs}
 use Rattle.std.proofs.lemmas.Int.{ints}
 use Rattle.scratch_number.specs.Number.{near, near_size}
-use Rattle.script_machine.specs.Texts.{hundredths, signed_hundredths}
+use Rattle.machine_spec.specs.Texts.{hundredths, signed_hundredths}
 
 minus : (n : ℕ) → 0 < n → signed_hundredths (neg_ℤ (pos n)) ≡ 45 ∷ hundredths n
 minus zero h = absurd (omega arith)

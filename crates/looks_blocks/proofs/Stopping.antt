@@ -1,12 +1,12 @@
 -- How a block of looks stops.
 use Rattle.std.proofs.Common.{Bool, true, false, cond}
 use Rattle.std.specs.Prelude.{◌==◌, Result, Ok, Err, IfErr}
-use Rattle.scenes.specs.Stops.{IsOfBubbles}
+use Rattle.speech_bubbles.specs.Stops.{IsOfBubbles}
 use Rattle.script_words.specs.declared.stops.CounterKind.TheVariants as counter
 use Rattle.script_words.specs.declared.stops.Stop.{Stop}
 use Rattle.script_words.specs.declared.stops.Stop.TheVariants.{Stack, Text, Counter, NoMemory}
-use Rattle.script_machine.specs.Outcome.{Goes, Spent, StopIs, last_number}
-use Rattle.script_machine.specs.Words.{Words, draw}
+use Rattle.machine_spec.specs.Outcome.{Goes, Spent, StopIs, last_number}
+use Rattle.machine_spec.specs.Words.{Words, draw}
 use Rattle.looks_blocks.specs.Stops.{IsOfCountersOrMemory}
 
 by_room : {T A : Type 0} (b : Bool) (r : Result T Stop) (a : A) → StopIs r (cond b (Spent counter.Words) (Goes a)) → IfErr r IsOfCountersOrMemory

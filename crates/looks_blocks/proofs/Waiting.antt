@@ -4,14 +4,14 @@ use Rattle.std.specs.Prelude.{true, Err}
 use Rattle.scratch_values.specs.declared.value.Value.{Value}
 use Rattle.script_words.specs.declared.stops.Stop.{Stop}
 use Rattle.script_words.specs.declared.stops.Stop.TheVariants.{Stack, Text, Counter, NoMemory}
-use Rattle.script_machine.specs.declared.threads.Context.{Context}
-use Rattle.script_machine.specs.declared.threads.Context.TheVariants.{Fresh, Repeat, Wait, Glide, Started, Asked, Spoken, Called}
-use Rattle.script_machine.specs.Looks.{backdrop_and_wait, backdrop_switched, switched_to}
-use Rattle.script_machine.specs.Outcome.{Outcome, StopIs, then_do}
-use Rattle.script_machine.specs.Parts.{LooksParts}
-use Rattle.script_machine.specs.Program.{Records, stage_number}
-use Rattle.script_machine.specs.Stores.{instance_at}
-use Rattle.script_machine.specs.Threads.{Listed}
+use Rattle.machine_spec.specs.declared.threads.Context.{Context}
+use Rattle.machine_spec.specs.declared.threads.Context.TheVariants.{Fresh, Repeat, Wait, Glide, Started, Asked, Spoken, Called}
+use Rattle.machine_spec.specs.Looks.{backdrop_and_wait, backdrop_switched, switched_to}
+use Rattle.machine_spec.specs.Outcome.{Outcome, StopIs, then_do}
+use Rattle.machine_spec.specs.Parts.{LooksParts}
+use Rattle.machine_spec.specs.Program.{Records, stage_number}
+use Rattle.machine_spec.specs.Stores.{instance_at}
+use Rattle.machine_spec.specs.Threads.{Listed}
 
 -- a context of another kind than that of waiting
 first_time : (c : Context) (v : Value) (records : Records) (threads : List Listed) (p : LooksParts) → ((serials : List ℕ) → c ≡ Started serials → ⊥) → backdrop_and_wait c v records threads p ≡ backdrop_switched true v records p

@@ -8,8 +8,8 @@ use Rattle.std.proofs.Math.Arith.{mod-mul}
 use Rattle.scratch_number.specs.declared.number.Num.TheVariants.{Fixed}
 use Rattle.scratch_number.specs.Arithmetic.{finite_modulo, modulo, round}
 use Rattle.scratch_number.proofs.Remainders.{number-small}
-use Rattle.script_machine.specs.Costume.{costume_index, whole_index}
-use Rattle.script_machine.specs.Numbers.{whole}
+use Rattle.machine_spec.specs.Costume.{costume_index, whole_index}
+use Rattle.machine_spec.specs.Numbers.{whole}
 
 less_pos : (a c : ℕ) → c ≤ a → unsigned_abs (pos a -ℤ pos c) ≡ a - c
 less_pos a c h = omega (arith, ints)

@@ -1,6 +1,6 @@
 -- What a value asks for, as the reference machine tells it, and the costume that is picked; private functions alone cite it.
 use Rattle.std.specs.Prelude.{ℕ}
-use Rattle.script_machine.specs.Costume as machine
+use Rattle.machine_spec.specs.Costume as machine
 use Rattle.looks_blocks.specs.declared.choices.Choice.{Choice}
 use Rattle.looks_blocks.specs.declared.choices.Choice.TheVariants.{Stays, To, Another}
 use Rattle.looks_blocks.specs.declared.picking.Pick.{Pick}

@@ -1,8 +1,8 @@
 -- What a block of looks does with threads.
 use Rattle.std.specs.Prelude.{Bool, true}
-use Rattle.script_machine.specs.declared.threads.Control.{Control}
-use Rattle.script_machine.specs.declared.threads.Control.TheVariants.{Start}
-use Rattle.script_machine.specs.Laws.{is_own}
+use Rattle.machine_spec.specs.declared.threads.Control.{Control}
+use Rattle.machine_spec.specs.declared.threads.Control.TheVariants.{Start}
+use Rattle.machine_spec.specs.Laws.{is_own}
 
 -- a control that is of its own thread alone, or starts hats
 abbrev pub is_own_or_start : Control → Bool

@@ -1,9 +1,9 @@
 -- Targets whose costumes can be counted.
 use Rattle.std.specs.Prelude.{◌<◌, ◌^◌, length}
-use Rattle.script_machine.specs.declared.records.TargetRecord.{TargetRecord}
-use Rattle.script_machine.specs.declared.instance.Instance.{Instance}
-use Rattle.script_machine.specs.Program.{Records}
-use Rattle.script_machine.specs.Stores.{record_of}
+use Rattle.machine_spec.specs.declared.records.TargetRecord.{TargetRecord}
+use Rattle.machine_spec.specs.declared.instance.Instance.{Instance}
+use Rattle.machine_spec.specs.Program.{Records}
+use Rattle.machine_spec.specs.Stores.{record_of}
 
 -- a target has a costume, and fewer than 2^32
 abbrev pub IsDressed : TargetRecord → Type 0

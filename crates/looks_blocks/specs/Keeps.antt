@@ -1,11 +1,11 @@
 -- What a row keeps; private functions alone cite it.
 use Rattle.std.specs.Prelude.{◌≡◌, true, false}
 use Rattle.opcode_table.specs.declared.kinds.Kind.{Kind}
-use Rattle.script_machine.specs.declared.threads.Context.{Context}
-use Rattle.script_machine.specs.declared.threads.Context.TheVariants.{Fresh}
-use Rattle.script_machine.specs.declared.threads.Control.{Control}
-use Rattle.script_machine.specs.Keeping.{control_fits}
-use Rattle.script_machine.specs.Laws.{is_own}
+use Rattle.machine_spec.specs.declared.threads.Context.{Context}
+use Rattle.machine_spec.specs.declared.threads.Context.TheVariants.{Fresh}
+use Rattle.machine_spec.specs.declared.threads.Control.{Control}
+use Rattle.machine_spec.specs.Keeping.{control_fits}
+use Rattle.machine_spec.specs.Laws.{is_own}
 use Rattle.looks_blocks.specs.Afresh.{was_afresh}
 use Rattle.looks_blocks.specs.Controls.{is_own_or_start}
 

@@ -1,6 +1,6 @@
 -- Instances that are told apart by their numbers.
 use Rattle.std.specs.Prelude.{ℕ, ◌≤◌, ◌==◌, List, count_by}
-use Rattle.script_machine.specs.declared.instance.Instance.{Instance}
+use Rattle.machine_spec.specs.declared.instance.Instance.{Instance}
 
 -- each number is that of one instance at most
 abbrev pub HasOneEach : List Instance → Type 0

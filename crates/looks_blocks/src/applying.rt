@@ -2,14 +2,14 @@
 
 ghost use Rattle.std.specs.Prelude.{◌≡◌, ℕ, false, true, IfErr, IfOk};
 ghost use Rattle.opcode_table.specs.Kinds.{kind};
-ghost use Rattle.script_machine.specs.Keeping.{control_fits};
-ghost use Rattle.script_machine.specs.Laws.{is_own};
-ghost use Rattle.script_machine.specs.Looks.{looks_row};
-ghost use Rattle.script_machine.specs.Outcome.{Goes, StopIs};
-ghost use Rattle.script_machine.specs.Program.{stage_number};
-ghost use Rattle.script_machine.specs.Stores.{instance_at};
-ghost use Rattle.script_machine.specs.declared.threads.Context.TheVariants.{Fresh, Spoken};
-ghost use Rattle.script_machine.specs.declared.threads.Control.TheVariants.{Next, Promise};
+ghost use Rattle.machine_spec.specs.Keeping.{control_fits};
+ghost use Rattle.machine_spec.specs.Laws.{is_own};
+ghost use Rattle.machine_spec.specs.Looks.{looks_row};
+ghost use Rattle.machine_spec.specs.Outcome.{Goes, StopIs};
+ghost use Rattle.machine_spec.specs.Program.{stage_number};
+ghost use Rattle.machine_spec.specs.Stores.{instance_at};
+ghost use Rattle.machine_spec.specs.declared.threads.Context.TheVariants.{Fresh, Spoken};
+ghost use Rattle.machine_spec.specs.declared.threads.Control.TheVariants.{Next, Promise};
 ghost use Rattle.target_records.specs.Records.{records_in};
 ghost use Rattle.targets.specs.Live.{IsLive, target_of};
 ghost use Rattle.thread_frames.specs.Threads.{listed};
@@ -22,9 +22,9 @@ ghost use Rattle.looks_blocks.specs.Stops.{IsOfCountersOrMemory};
 
 use crate::{backdrops, bubbles, costumes, effects, layers, sizes};
 use devices::Devices;
+use machine_spec::{Context, Control, InstanceId, Say, Serial};
 use opcode_table::Opcode;
 use scratch_values::Args;
-use script_machine::{Context, Control, InstanceId, Say, Serial};
 use script_words::{Counted, Rng, Stop};
 use std::alloc::Global;
 use target_records::Records;

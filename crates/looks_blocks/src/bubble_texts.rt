@@ -3,12 +3,12 @@
 ghost use Rattle.std.specs.Prelude.{◌≡◌, ◌≤◌, ◌++◌, ◌==◌, ◌%◌, ◌&&◌, nat_le, not, unsigned_abs, pos, string_bytes, IfOk, IsTrue};
 ghost use Rattle.scratch_number.specs.Number.{limit, near, near_size};
 ghost use Rattle.scratch_values.specs.declared.value.Value.TheVariants as values;
-ghost use Rattle.script_machine.specs.Texts as machine;
+ghost use Rattle.machine_spec.specs.Texts as machine;
 
+use machine_spec::BubbleText;
 use operators::Written;
 use scratch_number::{Num, NumText, Raw, write_text};
 use scratch_values::Value;
-use script_machine::BubbleText;
 use std::alloc::{AllocError, Global};
 
 // Whether so many millionths have a fraction and are at least 0.01 in size.

@@ -1,18 +1,18 @@
 //! Bubbles: say and think.
 
 ghost use Rattle.std.specs.Prelude.{◌≡◌, codes, IfErr, IfOk};
-ghost use Rattle.scenes.specs.Scenes.{scene_in};
+ghost use Rattle.speech_bubbles.specs.Scenes.{scene_in};
 ghost use Rattle.looks_blocks.specs.Stops.{IsOfCountersOrMemory};
 ghost use Rattle.scratch_number.specs.Arithmetic.{add as sum};
-ghost use Rattle.script_machine.specs.Looks.{goes_on, shown_bubble, spoken, timed_bubble};
-ghost use Rattle.script_machine.specs.Outcome.{Goes, StopIs};
-ghost use Rattle.script_machine.specs.Parts.{bubble_updated};
-ghost use Rattle.script_machine.specs.Stores.{from_zero, less, seconds};
-ghost use Rattle.script_machine.specs.Texts as texts;
-ghost use Rattle.script_machine.specs.View.{number_at, value_at};
-ghost use Rattle.script_machine.specs.Words.{Words};
-ghost use Rattle.script_machine.specs.declared.threads.Context.TheVariants.{Spoken};
-ghost use Rattle.script_machine.specs.declared.threads.Control.TheVariants.{Promise};
+ghost use Rattle.machine_spec.specs.Looks.{goes_on, shown_bubble, spoken, timed_bubble};
+ghost use Rattle.machine_spec.specs.Outcome.{Goes, StopIs};
+ghost use Rattle.machine_spec.specs.Parts.{bubble_updated};
+ghost use Rattle.machine_spec.specs.Stores.{from_zero, less, seconds};
+ghost use Rattle.machine_spec.specs.Texts as texts;
+ghost use Rattle.machine_spec.specs.View.{number_at, value_at};
+ghost use Rattle.machine_spec.specs.Words.{Words};
+ghost use Rattle.machine_spec.specs.declared.threads.Context.TheVariants.{Spoken};
+ghost use Rattle.machine_spec.specs.declared.threads.Control.TheVariants.{Promise};
 ghost use Rattle.targets.specs.Live.{IsSameCast};
 ghost use Rattle.looks_blocks.specs.Blocks.{leaves, parts};
 
@@ -20,11 +20,11 @@ use crate::bubble_texts::bubble_text;
 use crate::own::{bubble_usage, given, is_visible};
 use block_arguments::number;
 use devices::{BubbleTimer, Devices, seconds};
-use scenes::update_bubble;
+use machine_spec::{BubbleText, InstanceId, Say, Serial};
 use scratch_number::{Num, add, of_whole, order};
 use scratch_values::{Args, Value};
-use script_machine::{BubbleText, InstanceId, Say, Serial};
 use script_words::Stop;
+use speech_bubbles::update_bubble;
 use std::alloc::{AllocError, Global};
 use std::cmp::Ordering;
 use targets::Targets;

@@ -3,7 +3,7 @@
 ghost use Rattle.std.specs.Prelude.{◌≡◌, ◌<◌, true, false, bytes_eq, length, pos, position, IfSome, ◌^◌};
 ghost use Rattle.scratch_values.specs.Comparison.{numeric};
 ghost use Rattle.scratch_values.specs.Value.{text_of};
-ghost use Rattle.script_machine.specs.Costume as machine;
+ghost use Rattle.machine_spec.specs.Costume as machine;
 ghost use Rattle.looks_blocks.specs.Choices.{choice_in};
 
 use crate::picking::{index, index_behind};

@@ -1,11 +1,11 @@
 //! Costumes of the own instance. Each tells whether a redraw is requested.
 
 ghost use Rattle.std.specs.Prelude.{◌≡◌, codes, option_map, IfErr, IfOk};
-ghost use Rattle.script_machine.specs.Looks.{costume_switched, goes_on, looks_by, next_costume, with_costume};
-ghost use Rattle.script_machine.specs.Outcome.{Goes, StopIs};
-ghost use Rattle.script_machine.specs.Stores.{Devices, instance_at, on_instance};
-ghost use Rattle.script_machine.specs.View.{value_at};
-ghost use Rattle.script_machine.specs.Words.{Words, seen_words};
+ghost use Rattle.machine_spec.specs.Looks.{costume_switched, goes_on, looks_by, next_costume, with_costume};
+ghost use Rattle.machine_spec.specs.Outcome.{Goes, StopIs};
+ghost use Rattle.machine_spec.specs.Stores.{Devices, instance_at, on_instance};
+ghost use Rattle.machine_spec.specs.View.{value_at};
+ghost use Rattle.machine_spec.specs.Words.{Words, seen_words};
 ghost use Rattle.target_records.specs.Records.{records_in};
 ghost use Rattle.targets.specs.Live.{IsSameCast};
 ghost use Rattle.looks_blocks.specs.Blocks.{parts};
@@ -16,9 +16,9 @@ ghost use Rattle.looks_blocks.specs.Stops.{IsOfCountersOrMemory};
 use crate::dress::{asked_for, next};
 use crate::own::given;
 use crate::picking::Pick;
+use machine_spec::InstanceId;
 use scratch_number::of_whole;
 use scratch_values::{Args, Value};
-use script_machine::InstanceId;
 use script_words::{Counted, Rng, Stop};
 use target_records::Records;
 use targets::Targets;

@@ -1,13 +1,13 @@
 //! The costumes of an instance.
 
 ghost use Rattle.std.specs.Prelude.{◌≡◌, ◌<◌, ◌+◌, ◌%◌, [], option_map, slice_index_or, IfErr, IfOk};
-ghost use Rattle.script_machine.specs.Costume.{costume_index};
-ghost use Rattle.script_machine.specs.Looks.{next_costume, switched_to, with_costume};
-ghost use Rattle.script_machine.specs.Outcome.{Goes, StopIs};
-ghost use Rattle.script_machine.specs.Program.{record_at};
-ghost use Rattle.script_machine.specs.Sensing as machine;
-ghost use Rattle.script_machine.specs.Stores.{instance_at};
-ghost use Rattle.script_machine.specs.Words.{seen_words};
+ghost use Rattle.machine_spec.specs.Costume.{costume_index};
+ghost use Rattle.machine_spec.specs.Looks.{next_costume, switched_to, with_costume};
+ghost use Rattle.machine_spec.specs.Outcome.{Goes, StopIs};
+ghost use Rattle.machine_spec.specs.Program.{record_at};
+ghost use Rattle.machine_spec.specs.Sensing as machine;
+ghost use Rattle.machine_spec.specs.Stores.{instance_at};
+ghost use Rattle.machine_spec.specs.Words.{seen_words};
 ghost use Rattle.target_records.specs.Records.{records_in};
 ghost use Rattle.looks_blocks.specs.Choices.{place_in};
 ghost use Rattle.looks_blocks.specs.Costumes.{HasCostumes, IsDressed};
@@ -15,8 +15,8 @@ ghost use Rattle.looks_blocks.specs.Stops.{IsOfCountersOrMemory};
 
 use crate::choices::choice_of;
 use crate::picking::{Pick, index_behind, pick_for};
+use machine_spec::{InstanceId, TargetId};
 use scratch_values::{BoundText, Value};
-use script_machine::{InstanceId, TargetId};
 use script_words::{Counted, Rng, Stop};
 use target_records::Records;
 use targets::Targets;

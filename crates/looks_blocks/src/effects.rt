@@ -3,18 +3,18 @@
 ghost use Rattle.std.specs.Prelude.{◌≡◌, codes, option_map, position, bytes_eq, slice_index_or, IfOk};
 ghost use Rattle.scratch_number.specs.Arithmetic.{add as sum};
 ghost use Rattle.scratch_values.specs.Casts.{zero_number};
-ghost use Rattle.script_machine.specs.Effects.{effect_names, effect_place};
-ghost use Rattle.script_machine.specs.Looks.{effect_named, effect_set, goes_on, with_effect};
-ghost use Rattle.script_machine.specs.Stores.{Devices, instance_at, on_instance};
-ghost use Rattle.script_machine.specs.View.{field_at, number_at};
-ghost use Rattle.script_machine.specs.Words.{Words};
+ghost use Rattle.machine_spec.specs.Effects.{effect_names, effect_place};
+ghost use Rattle.machine_spec.specs.Looks.{effect_named, effect_set, goes_on, with_effect};
+ghost use Rattle.machine_spec.specs.Stores.{Devices, instance_at, on_instance};
+ghost use Rattle.machine_spec.specs.View.{field_at, number_at};
+ghost use Rattle.machine_spec.specs.Words.{Words};
 ghost use Rattle.targets.specs.Live.{IsSameCast};
 ghost use Rattle.looks_blocks.specs.Blocks.{parts};
 
 use block_arguments::{field, number};
+use machine_spec::{Effect, InstanceId};
 use scratch_number::{Num, add, of_whole};
 use scratch_values::{Args, fold};
-use script_machine::{Effect, InstanceId};
 use std::alloc::{AllocError, Global};
 use targets::Targets;
 

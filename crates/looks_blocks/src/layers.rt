@@ -3,12 +3,12 @@
 ghost use Rattle.std.specs.Prelude.{◌≡◌, ◌≢◌, ℕ, codes};
 ghost use Rattle.scratch_number.specs.Number.{negated};
 ghost use Rattle.scratch_number.specs.declared.number.Num.TheVariants as nums;
-ghost use Rattle.script_machine.specs.Looks as machine;
-ghost use Rattle.script_machine.specs.Looks.{forward_by, goes_on, last_layer, layer, layer_after, layered, on_sprite};
-ghost use Rattle.script_machine.specs.Numbers.{without_fraction};
-ghost use Rattle.script_machine.specs.Stores.{Devices};
-ghost use Rattle.script_machine.specs.View.{field_at, number_at};
-ghost use Rattle.script_machine.specs.Words.{Words};
+ghost use Rattle.machine_spec.specs.Looks as machine;
+ghost use Rattle.machine_spec.specs.Looks.{forward_by, goes_on, last_layer, layer, layer_after, layered, on_sprite};
+ghost use Rattle.machine_spec.specs.Numbers.{without_fraction};
+ghost use Rattle.machine_spec.specs.Stores.{Devices};
+ghost use Rattle.machine_spec.specs.View.{field_at, number_at};
+ghost use Rattle.machine_spec.specs.Words.{Words};
 ghost use Rattle.target_records.specs.Records.{records_in};
 ghost use Rattle.targets.specs.Layers.{layer_to};
 ghost use Rattle.targets.specs.Live.{IsLive, target_of};
@@ -16,9 +16,9 @@ ghost use Rattle.looks_blocks.specs.Blocks.{parts};
 ghost use Rattle.looks_blocks.specs.Live.{HasOneEach};
 
 use block_arguments::{field, number};
+use machine_spec::InstanceId;
 use scratch_number::{Num, Raw};
 use scratch_values::Args;
-use script_machine::InstanceId;
 use target_records::Records;
 use targets::{Place, Targets};
 

@@ -1,14 +1,14 @@
 //! The instance that executes, and the inputs of a block.
 
 ghost use Rattle.std.specs.Prelude.{◌≡◌};
-ghost use Rattle.script_machine.specs.Stores.{instance_at};
-ghost use Rattle.script_machine.specs.View.{value_at};
+ghost use Rattle.machine_spec.specs.Stores.{instance_at};
+ghost use Rattle.machine_spec.specs.View.{value_at};
 ghost use Rattle.scratch_values.specs.Casts.{zero_number};
 ghost use Rattle.scratch_values.specs.declared.value.Value.TheVariants.{Number};
 
+use machine_spec::InstanceId;
 use scratch_number::{Num, of_whole};
 use scratch_values::{Args, Value};
-use script_machine::InstanceId;
 use targets::Targets;
 
 // The value of an input, or `zero` where there is no such input.

@@ -1,10 +1,10 @@
 //! The costume that is picked.
 
 ghost use Rattle.std.specs.Prelude.{◌≡◌, ◌<◌, ◌≤◌, ◌+◌, ◌-◌, ◌*◌, ◌/◌, ◌^◌, option_map, pos, IfErr, IfOk};
-ghost use Rattle.script_machine.specs.Costume as machine;
-ghost use Rattle.script_machine.specs.Numbers.{whole};
-ghost use Rattle.script_machine.specs.Outcome.{Goes, StopIs};
-ghost use Rattle.script_machine.specs.Words.{seen_words};
+ghost use Rattle.machine_spec.specs.Costume as machine;
+ghost use Rattle.machine_spec.specs.Numbers.{whole};
+ghost use Rattle.machine_spec.specs.Outcome.{Goes, StopIs};
+ghost use Rattle.machine_spec.specs.Words.{seen_words};
 ghost use Rattle.looks_blocks.specs.Choices.{choice_in, place_in};
 ghost use Rattle.looks_blocks.specs.Stops.{IsOfCountersOrMemory};
 

@@ -3,19 +3,19 @@
 
 ghost use Rattle.std.specs.Prelude.{◌≡◌, codes};
 ghost use Rattle.scratch_number.specs.Arithmetic.{add as sum};
-ghost use Rattle.script_machine.specs.Looks.{goes_on, looks, on_sprite, redrawn, with_size};
-ghost use Rattle.script_machine.specs.Stores.{Devices, instance_at, on_instance};
-ghost use Rattle.script_machine.specs.View.{number_at};
-ghost use Rattle.script_machine.specs.Words.{Words};
+ghost use Rattle.machine_spec.specs.Looks.{goes_on, looks, on_sprite, redrawn, with_size};
+ghost use Rattle.machine_spec.specs.Stores.{Devices, instance_at, on_instance};
+ghost use Rattle.machine_spec.specs.View.{number_at};
+ghost use Rattle.machine_spec.specs.Words.{Words};
 ghost use Rattle.target_records.specs.Records.{records_in};
 ghost use Rattle.targets.specs.Live.{IsSameCast};
 ghost use Rattle.looks_blocks.specs.Blocks.{parts};
 
 use crate::own::size;
 use block_arguments::number;
+use machine_spec::InstanceId;
 use scratch_number::{Num, add};
 use scratch_values::Args;
-use script_machine::InstanceId;
 use target_records::Records;
 use targets::Targets;
 

@@ -2,10 +2,10 @@
 
 use devices::Devices;
 use evaluate::{View, inputs};
+use machine_spec::{BlockId, InstanceId, TargetId};
 use project_check::{Project, load};
 use scratch_number::{Num, of_whole};
 use scratch_values::{Args, to_number};
-use script_machine::{BlockId, InstanceId, TargetId};
 use script_words::{CounterKind, Stop, pcg};
 use std::process::Abort;
 use targets::Targets;

@@ -4,10 +4,10 @@ ghost use Rattle.executions.specs.Resting.{IsIdle};
 
 use executions::State;
 use frames::frame;
+use machine_spec::{Budget, Filter, InstanceId};
 use project_check::{Project, load};
 use scratch_number::{Num, of_whole};
 use scratch_values::to_number;
-use script_machine::{Budget, Filter, InstanceId};
 use script_words::{Rng, pcg};
 use std::process::Abort;
 

@@ -3,9 +3,9 @@
 ghost use Rattle.std.specs.Prelude.{◌<◌, ◌^◌};
 
 use hats::{EdgeList, edges, every_hat_is_a_head, start};
+use machine_spec::{BlockId, Filter, InstanceId, Serial, TargetId, Which};
 use project_check::{Project, load};
 use project_json::Text;
-use script_machine::{BlockId, Filter, InstanceId, Serial, TargetId, Which};
 use script_words::{CounterKind, Stop};
 use std::alloc::{AllocError, Global};
 use std::process::Abort;

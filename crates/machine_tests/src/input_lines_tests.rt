@@ -6,11 +6,11 @@ ghost use Rattle.input_lines.specs.Frames.{is_frame};
 
 use executions::State;
 use input_lines::apply_line;
+use machine_spec::{InstanceId, Key, Line, Which};
 use project_check::{Project, load};
 use rand_pcg::Pcg32;
 use scheduling::passes;
 use scratch_values::{BoundText, to_text};
-use script_machine::{InstanceId, Key, Line, Which};
 use script_words::pcg;
 use std::alloc::{AllocError, Global};
 use std::process::Abort;

@@ -3,10 +3,10 @@
 ghost use Rattle.std.specs.Prelude.{◌≡◌};
 ghost use Rattle.sequencer.specs.Runs.{IsRunOf};
 
+use machine_spec::{Budget, InstanceId, Line};
 use project_check::{Project, load};
 use scratch_number::{Num, of_whole};
 use scratch_values::to_number;
-use script_machine::{Budget, InstanceId, Line};
 use script_words::{Rng, pcg};
 use sequencer::Run;
 use std::process::Abort;

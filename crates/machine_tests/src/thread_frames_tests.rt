@@ -1,10 +1,10 @@
 //! Each public function once, on a few threads.
 
-use project_json::Text;
-use scratch_values::{Params, Value};
-use script_machine::{
+use machine_spec::{
     BlockId, Boxed, Context, Control, Count, InstanceId, Serial, Status, TargetId, Which,
 };
+use project_json::Text;
+use scratch_values::{Params, Value};
 use std::process::Abort;
 use thread_frames::{Levels, PushStop, Threads};
 

@@ -1,14 +1,14 @@
 -- Glides that are over.
 use Rattle.std.proofs.Common.{◌≡◌, ℕ, Bool, false, cond, ap, ◌∙◌, sym}
 use Rattle.scratch_number.specs.declared.number.Num.{Num}
-use Rattle.script_machine.specs.declared.threads.Context.{Context}
-use Rattle.script_machine.specs.declared.threads.Context.TheVariants.{Fresh, Glide}
-use Rattle.script_machine.specs.declared.threads.Control.TheVariants.{Next}
-use Rattle.script_machine.specs.declared.threads.GlideState.{GlideState}
-use Rattle.script_machine.specs.Motion.{Point, at_point, glide, moved, to_point}
-use Rattle.script_machine.specs.Parts.{MotionParts}
-use Rattle.script_machine.specs.Stores.{Devices, elapsed, less}
-use Rattle.script_machine.specs.View.{Row}
+use Rattle.machine_spec.specs.declared.threads.Context.{Context}
+use Rattle.machine_spec.specs.declared.threads.Context.TheVariants.{Fresh, Glide}
+use Rattle.machine_spec.specs.declared.threads.Control.TheVariants.{Next}
+use Rattle.machine_spec.specs.declared.threads.GlideState.{GlideState}
+use Rattle.machine_spec.specs.Motion.{Point, at_point, glide, moved, to_point}
+use Rattle.machine_spec.specs.Parts.{MotionParts}
+use Rattle.machine_spec.specs.Stores.{Devices, elapsed, less}
+use Rattle.machine_spec.specs.View.{Row}
 
 -- what is not so is not chosen
 pub otherwise : {A : Type 0} (b : Bool) (x y z : A) → b ≡ false → y ≡ z → cond b x y ≡ z

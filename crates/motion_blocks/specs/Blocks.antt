@@ -2,14 +2,14 @@
 use Rattle.std.specs.Prelude.{List, Bool}
 use Rattle.rand_core.specs.Stream.{Stream}
 use Rattle.script_words.specs.declared.counting.Counted.{Counted}
-use Rattle.script_machine.specs.declared.instance.Instance.{Instance}
-use Rattle.script_machine.specs.declared.threads.Context.{Context}
-use Rattle.script_machine.specs.declared.threads.Context.TheVariants.{Fresh}
-use Rattle.script_machine.specs.declared.threads.Control.{Control}
-use Rattle.script_machine.specs.declared.threads.Control.TheVariants.{Next}
-use Rattle.script_machine.specs.Words.{Words, seen_words}
-use Rattle.script_machine.specs.Parts.{MotionParts}
-use Rattle.script_machine.specs.View.{Row}
+use Rattle.machine_spec.specs.declared.instance.Instance.{Instance}
+use Rattle.machine_spec.specs.declared.threads.Context.{Context}
+use Rattle.machine_spec.specs.declared.threads.Context.TheVariants.{Fresh}
+use Rattle.machine_spec.specs.declared.threads.Control.{Control}
+use Rattle.machine_spec.specs.declared.threads.Control.TheVariants.{Next}
+use Rattle.machine_spec.specs.Words.{Words, seen_words}
+use Rattle.machine_spec.specs.Parts.{MotionParts}
+use Rattle.machine_spec.specs.View.{Row}
 
 -- the parts of the world that a block of motion may change, as the code holds them
 abbrev pub parts_of : {R : Type 0} → (R → Stream) → List Instance → Counted R → MotionParts

@@ -1,5 +1,5 @@
 -- The points of this crate's code as those of the reference machine.
-use Rattle.script_machine.specs.Motion as machine
+use Rattle.machine_spec.specs.Motion as machine
 use Rattle.motion_blocks.specs.declared.own.Point.{Point}
 
 abbrev pub point : Point → machine.Point

@@ -2,14 +2,14 @@
 
 ghost use Rattle.std.specs.Prelude.{◌≡◌, true, IfOk, IfErr};
 ghost use Rattle.opcode_table.specs.Kinds.{kind};
-ghost use Rattle.script_machine.specs.Keeping.{control_fits};
-ghost use Rattle.script_machine.specs.Laws.{is_own};
-ghost use Rattle.script_machine.specs.Motion.{motion_row, sprite_row, stepped as machine_stepped};
-ghost use Rattle.script_machine.specs.Outcome.{Goes, StopIs};
-ghost use Rattle.script_machine.specs.Stores.{instance_at, on_instance};
-ghost use Rattle.script_machine.specs.Words.{seen_words};
-ghost use Rattle.script_machine.specs.declared.threads.Context.TheVariants.{Fresh};
-ghost use Rattle.script_machine.specs.declared.threads.Control.TheVariants.{Next};
+ghost use Rattle.machine_spec.specs.Keeping.{control_fits};
+ghost use Rattle.machine_spec.specs.Laws.{is_own};
+ghost use Rattle.machine_spec.specs.Motion.{motion_row, sprite_row, stepped as machine_stepped};
+ghost use Rattle.machine_spec.specs.Outcome.{Goes, StopIs};
+ghost use Rattle.machine_spec.specs.Stores.{instance_at, on_instance};
+ghost use Rattle.machine_spec.specs.Words.{seen_words};
+ghost use Rattle.machine_spec.specs.declared.threads.Context.TheVariants.{Fresh};
+ghost use Rattle.machine_spec.specs.declared.threads.Control.TheVariants.{Next};
 ghost use Rattle.target_records.specs.Records.{records_in};
 ghost use Rattle.targets.specs.Live.{IsSameCast};
 ghost use Rattle.motion_blocks.specs.Blocks.{leaves, parts_of};
@@ -17,9 +17,9 @@ ghost use Rattle.motion_blocks.specs.Stops.{IsOfWordsOrMemory};
 
 use crate::{gliding, going, own, pointing, steps, turns};
 use devices::Devices;
+use machine_spec::{Context, Control, InstanceId};
 use opcode_table::Opcode;
 use scratch_values::Args;
-use script_machine::{Context, Control, InstanceId};
 use script_words::{Counted, Rng, Stop};
 use std::alloc::Global;
 use target_records::Records;

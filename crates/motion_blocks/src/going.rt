@@ -2,10 +2,10 @@
 
 ghost use Rattle.std.specs.Prelude.{◌≡◌, option_map, IfOk, IfErr};
 ghost use Rattle.opcode_table.specs.declared.opcode.Opcode.TheVariants as opcode;
-ghost use Rattle.script_machine.specs.Motion.{at_point, moved_by, sprite_row};
-ghost use Rattle.script_machine.specs.Outcome.{Goes, StopIs};
-ghost use Rattle.script_machine.specs.Words.{Words, seen_words};
-ghost use Rattle.script_machine.specs.declared.threads.Context.TheVariants.{Fresh};
+ghost use Rattle.machine_spec.specs.Motion.{at_point, moved_by, sprite_row};
+ghost use Rattle.machine_spec.specs.Outcome.{Goes, StopIs};
+ghost use Rattle.machine_spec.specs.Words.{Words, seen_words};
+ghost use Rattle.machine_spec.specs.declared.threads.Context.TheVariants.{Fresh};
 ghost use Rattle.target_records.specs.Records.{records_in};
 ghost use Rattle.targets.specs.Live.{IsSameCast};
 ghost use Rattle.motion_blocks.specs.Blocks.{goes_on, parts_of};
@@ -15,10 +15,10 @@ ghost use Rattle.motion_blocks.specs.Stops.{IsOfWordsOrMemory};
 use crate::own::Point;
 use crate::places::{given, point_named};
 use devices::Devices;
+use machine_spec::InstanceId;
 use operators::Written;
 use scratch_number::of_whole;
 use scratch_values::{Args, Value};
-use script_machine::InstanceId;
 use script_words::{Counted, Rng, Stop};
 use target_records::Records;
 use targets::Targets;

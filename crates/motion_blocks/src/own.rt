@@ -1,10 +1,10 @@
 //! The instance that executes.
 
 ghost use Rattle.std.specs.Prelude.{◌≡◌};
-ghost use Rattle.script_machine.specs.Stores.{instance_at, on_instance};
+ghost use Rattle.machine_spec.specs.Stores.{instance_at, on_instance};
 
+use machine_spec::InstanceId;
 use scratch_number::{Num, of_whole};
-use script_machine::InstanceId;
 use targets::Targets;
 
 // A place on the stage, in stage units.

@@ -1,13 +1,13 @@
 //! Places that a menu names.
 
 ghost use Rattle.std.specs.Prelude.{◌≡◌, ◌<◌, Some, unwrap_or, option_map, IfOk, IfErr};
-ghost use Rattle.script_machine.specs.Numbers.{whole};
+ghost use Rattle.machine_spec.specs.Numbers.{whole};
 ghost use Rattle.scratch_values.specs.Named.{item_named};
-ghost use Rattle.script_machine.specs.Motion as machine;
-ghost use Rattle.script_machine.specs.Outcome.{Goes, StopIs};
-ghost use Rattle.script_machine.specs.Random.{scattered};
-ghost use Rattle.script_machine.specs.Sensing.{sprite};
-ghost use Rattle.script_machine.specs.Words.{seen_words};
+ghost use Rattle.machine_spec.specs.Motion as machine;
+ghost use Rattle.machine_spec.specs.Outcome.{Goes, StopIs};
+ghost use Rattle.machine_spec.specs.Random.{scattered};
+ghost use Rattle.machine_spec.specs.Sensing.{sprite};
+ghost use Rattle.machine_spec.specs.Words.{seen_words};
 ghost use Rattle.target_records.specs.Records.{records_in};
 ghost use Rattle.motion_blocks.specs.Blocks.{parts_of};
 ghost use Rattle.motion_blocks.specs.Points.{point};

@@ -4,15 +4,15 @@ ghost use Rattle.std.specs.Prelude.{◌≡◌};
 ghost use Rattle.scratch_number.specs.Angles.{cos as cosine, sin as sine};
 ghost use Rattle.scratch_number.specs.Arithmetic.{add as sum, mul as product};
 ghost use Rattle.opcode_table.specs.declared.opcode.Opcode.TheVariants as opcode;
-ghost use Rattle.script_machine.specs.Motion.{stepped};
-ghost use Rattle.script_machine.specs.Stores.{instance_at, on_instance};
+ghost use Rattle.machine_spec.specs.Motion.{stepped};
+ghost use Rattle.machine_spec.specs.Stores.{instance_at, on_instance};
 ghost use Rattle.targets.specs.Live.{IsSameCast};
 
 use crate::own::{Point, Stance, stance_of};
 use block_arguments::number;
+use machine_spec::InstanceId;
 use scratch_number::{Num, add, cos, mul, sin};
 use scratch_values::Args;
-use script_machine::InstanceId;
 use targets::Targets;
 
 // The place so many steps away along a direction.

@@ -2,19 +2,19 @@
 
 ghost use Rattle.std.specs.Prelude.{◌≡◌, codes, option_map};
 ghost use Rattle.opcode_table.specs.declared.opcode.Opcode.TheVariants as opcode;
-ghost use Rattle.script_machine.specs.Motion as machine;
-ghost use Rattle.script_machine.specs.Motion.{moved_by, stepped};
-ghost use Rattle.script_machine.specs.Stores.{instance_at, on_instance};
-ghost use Rattle.script_machine.specs.View.{field_at};
-ghost use Rattle.script_machine.specs.Words.{Words};
+ghost use Rattle.machine_spec.specs.Motion as machine;
+ghost use Rattle.machine_spec.specs.Motion.{moved_by, stepped};
+ghost use Rattle.machine_spec.specs.Stores.{instance_at, on_instance};
+ghost use Rattle.machine_spec.specs.View.{field_at};
+ghost use Rattle.machine_spec.specs.Words.{Words};
 ghost use Rattle.targets.specs.Live.{IsSameCast};
 ghost use Rattle.motion_blocks.specs.Blocks.{goes_on};
 
 use crate::own::stance_of;
 use block_arguments::{field, number};
+use machine_spec::InstanceId;
 use scratch_number::{add, sub};
 use scratch_values::Args;
-use script_machine::InstanceId;
 use targets::{Style, Targets};
 
 // `turn right DEGREES degrees`.

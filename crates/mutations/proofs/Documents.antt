@@ -7,8 +7,8 @@ use Rattle.project_json.specs.View.{tree}
 use Rattle.project_json.specs.declared.refusal.JsonRefusal.{JsonRefusal}
 use Rattle.project_json.specs.declared.refusal.JsonRefusal.TheVariants as json
 use Rattle.project_json.proofs.TextTrees.{tree_of-text}
-use Rattle.project_file.specs.Mutation.{or_refuse}
-use Rattle.project_file.specs.declared.refusals.MutationRefusal.TheVariants.{BadText}
+use Rattle.project_spec.specs.Mutation.{or_refuse}
+use Rattle.project_spec.specs.declared.refusals.MutationRefusal.TheVariants.{BadText}
 use Rattle.mutations.specs.Says.{Says, of_json}
 
 -- a text that is refused has no tree, unless memory ran out

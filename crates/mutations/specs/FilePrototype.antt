@@ -1,7 +1,7 @@
 -- A prototype as a project file has it, whose defaults may be longer than the values of a run.
 use Rattle.std.specs.Prelude.{map}
-use Rattle.project_file.specs.FileValues.{value_in}
-use Rattle.project_file.specs.declared.blocks.Prototype.{Prototype}
+use Rattle.project_spec.specs.FileValues.{value_in}
+use Rattle.project_spec.specs.declared.blocks.Prototype.{Prototype}
 use Rattle.mutations.specs.declared.prototype.FilePrototype.{FilePrototype}
 
 -- the prototype

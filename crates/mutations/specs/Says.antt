@@ -2,8 +2,8 @@
 use Rattle.std.specs.Prelude.{◌≡◌, Result, Ok, Err}
 use Rattle.project_json.specs.declared.refusal.JsonRefusal.{JsonRefusal}
 use Rattle.project_json.specs.declared.refusal.JsonRefusal.TheVariants as json
-use Rattle.project_file.specs.declared.refusals.MutationRefusal.{MutationRefusal}
-use Rattle.project_file.specs.declared.refusals.MutationRefusal.TheVariants.{Missing, BadText, LengthsDiffer, NoMemory}
+use Rattle.project_spec.specs.declared.refusals.MutationRefusal.{MutationRefusal}
+use Rattle.project_spec.specs.declared.refusals.MutationRefusal.TheVariants.{Missing, BadText, LengthsDiffer, NoMemory}
 
 -- What was returned, seen by view, is what the mutation says, and a refusal is the one that it says. Where memory ran out
 -- nothing is claimed.

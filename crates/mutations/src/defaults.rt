@@ -3,15 +3,15 @@
 ghost use Rattle.std.specs.Prelude.{◌≡◌, map};
 ghost use Rattle.std.specs.Option.{option_map};
 ghost use Rattle.project_json.specs.View.{tree};
-ghost use Rattle.project_file.specs.FileValues.{value_in};
-ghost use Rattle.project_file.specs.Mutation.{or_refuse, all_some};
-ghost use Rattle.project_file.specs.Mutation as told;
+ghost use Rattle.project_spec.specs.FileValues.{value_in};
+ghost use Rattle.project_spec.specs.Mutation.{or_refuse, all_some};
+ghost use Rattle.project_spec.specs.Mutation as told;
 ghost use Rattle.mutations.specs.Says.{Says};
 
 use crate::parts::{copy, document, push};
 use crate::prototype::FileValues;
-use project_file::{FileValue, MutationRefusal};
 use project_json::{Json, Text, items_of, text_of};
+use project_spec::{FileValue, MutationRefusal};
 use scratch_number::of_text;
 use std::alloc::Global;
 

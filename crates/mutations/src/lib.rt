@@ -9,6 +9,6 @@ mod parts;
 mod prototype;
 mod reading;
 
-pub use project_file::MutationRefusal;
+pub use project_spec::MutationRefusal;
 pub use prototype::{FilePrototype, FileValues};
 pub use reading::{read_call, read_prototype};

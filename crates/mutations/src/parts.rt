@@ -5,14 +5,14 @@ ghost use Rattle.std.specs.Option.{option_map};
 ghost use Rattle.project_json.specs.Parts.{member_of, text_in};
 ghost use Rattle.project_json.specs.TextTree.{tree_of};
 ghost use Rattle.project_json.specs.View.{tree};
-ghost use Rattle.shapes.specs.Shapes as shape;
-ghost use Rattle.project_file.specs.Mutation.{or_refuse, all_some};
-ghost use Rattle.project_file.specs.Mutation as told;
+ghost use Rattle.json_shapes.specs.Shapes as shape;
+ghost use Rattle.project_spec.specs.Mutation.{or_refuse, all_some};
+ghost use Rattle.project_spec.specs.Mutation as told;
 ghost use Rattle.mutations.specs.Says.{Says, of_json};
 
 use lists::ListOf;
-use project_file::MutationRefusal;
 use project_json::{Json, JsonRefusal, Text, Texts, is_null, items_of, member, read, text_of};
+use project_spec::MutationRefusal;
 use std::alloc::Global;
 
 // A copy of a text.

@@ -1,8 +1,8 @@
 //! What a prototype says, as the file has it.
 
 use lists::ListOf;
-use project_file::FileValue;
 use project_json::{Text, Texts};
+use project_spec::FileValue;
 
 /// Values as a project file has them, in order.
 pub type FileValues = ListOf<FileValue>;

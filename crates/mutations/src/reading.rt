@@ -1,15 +1,15 @@
 //! Reads the `mutation` of a prototype or a call.
 
 ghost use Rattle.project_json.specs.View.{tree};
-ghost use Rattle.project_file.specs.Mutation.{prototype_in, call_in, same_lengths};
+ghost use Rattle.project_spec.specs.Mutation.{prototype_in, call_in, same_lengths};
 ghost use Rattle.mutations.specs.FilePrototype.{prototype_of};
 ghost use Rattle.mutations.specs.Says.{Says};
 
 use crate::defaults::{defaults_of, warp_of};
 use crate::parts::{copy, present, text_named, texts_of};
 use crate::prototype::FilePrototype;
-use project_file::MutationRefusal;
 use project_json::{Json, Text};
+use project_spec::MutationRefusal;
 use std::alloc::Global;
 
 // The prototype, where it has as many names and defaults as ids.

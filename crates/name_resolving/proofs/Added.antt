@@ -6,12 +6,12 @@ use Rattle.std.proofs.lemmas.List.Folds.{position_or_len-set}
 use Rattle.std.proofs.lemmas.Option.{slice_get-get_or, unwrap_or-slice_get}
 use Rattle.scratch_values.specs.declared.names.VarName.{VarName}
 use Rattle.scratch_values.specs.declared.names.VarRef.{VarRef}
-use Rattle.script_machine.specs.Lists.{set_some, changed_at}
-use Rattle.script_machine.specs.Program.{Records, no_target, record_at, stage_number}
-use Rattle.script_machine.specs.declared.records.VariableRecord.{VariableRecord}
-use Rattle.script_machine.specs.declared.records.ListRecord.{ListRecord}
-use Rattle.script_machine.specs.declared.records.TargetRecord.{TargetRecord}
-use Rattle.project_file.specs.Resolving.{Sort, OfVariable, OfList, Naming, names_of, found_in, with_added, or_added, resolved_name}
+use Rattle.machine_spec.specs.Lists.{set_some, changed_at}
+use Rattle.machine_spec.specs.Program.{Records, no_target, record_at, stage_number}
+use Rattle.machine_spec.specs.declared.records.VariableRecord.{VariableRecord}
+use Rattle.machine_spec.specs.declared.records.ListRecord.{ListRecord}
+use Rattle.machine_spec.specs.declared.records.TargetRecord.{TargetRecord}
+use Rattle.project_spec.specs.Resolving.{Sort, OfVariable, OfList, Naming, names_of, found_in, with_added, or_added, resolved_name}
 use Rattle.name_resolving.specs.Room.{holdings}
 use Rattle.name_resolving.specs.Passing.{Grows}
 use Rattle.name_resolving.specs.Scope.{added_at}

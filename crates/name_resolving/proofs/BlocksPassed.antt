@@ -3,10 +3,10 @@ use Rattle.std.proofs.Common.{◌≡◌, ℕ, suc, ◌+◌, ◌<◌, ◌≤◌, 
 use Rattle.std.specs.List.{sum_by, flat_map}
 use Rattle.std.proofs.lemmas.List.Sums.{sum_by_more}
 use Rattle.std.proofs.Math.Seq.{drop-cons, take-length, drop-length}
-use Rattle.script_machine.specs.Program.{Records}
-use Rattle.project_file.specs.declared.blocks.Block.{Block}
-use Rattle.project_file.specs.declared.blocks.Resolved.{Resolved}
-use Rattle.project_file.specs.Resolving.{and_then, before, field_naming, input_naming, names_in, resolved_names, resolved_blocks}
+use Rattle.machine_spec.specs.Program.{Records}
+use Rattle.project_spec.specs.declared.blocks.Block.{Block}
+use Rattle.project_spec.specs.declared.blocks.Resolved.{Resolved}
+use Rattle.project_spec.specs.Resolving.{and_then, before, field_naming, input_naming, names_in, resolved_names, resolved_blocks}
 use Rattle.name_resolving.specs.declared.scope.Scope.{Scope}
 use Rattle.name_resolving.specs.Scope.{IsScope}
 use Rattle.name_resolving.specs.Room.{parts}

@@ -2,8 +2,8 @@
 use Rattle.std.proofs.Common.{◌≡◌, ℕ, List, [], ◌∷◌, ◌++◌, length, sym, subst}
 use Rattle.std.proofs.lemmas.List.{map-append}
 use Rattle.scratch_values.specs.declared.names.VarName.{VarName}
-use Rattle.script_machine.specs.declared.records.TargetRecord.{TargetRecord}
-use Rattle.project_file.specs.Resolving.{Sort, OfVariable, OfList, names_of, with_added}
+use Rattle.machine_spec.specs.declared.records.TargetRecord.{TargetRecord}
+use Rattle.project_spec.specs.Resolving.{Sort, OfVariable, OfList, names_of, with_added}
 use Rattle.name_resolving.specs.declared.index.Index.{Index}
 use Rattle.name_resolving.specs.declared.directory.Directory.{Directory}
 use Rattle.name_resolving.specs.Index.{IsIndex}

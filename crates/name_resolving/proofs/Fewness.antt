@@ -4,10 +4,10 @@ use Rattle.std.specs.Prelude.{bytes_eq, codes}
 use Rattle.std.specs.List.{flat_map}
 use Rattle.std.proofs.lemmas.List.{length-take-le}
 use Rattle.scratch_values.specs.declared.names.VarName.{VarName}
-use Rattle.project_file.specs.declared.blocks.Code.{Code}
-use Rattle.project_file.specs.declared.blocks.Input.{Input}
-use Rattle.project_file.specs.declared.blocks.Input.TheVariants as input
-use Rattle.project_file.specs.Resolving.{Naming, is_own_field, field_naming, input_naming}
+use Rattle.project_spec.specs.declared.blocks.Code.{Code}
+use Rattle.project_spec.specs.declared.blocks.Input.{Input}
+use Rattle.project_spec.specs.declared.blocks.Input.TheVariants as input
+use Rattle.project_spec.specs.Resolving.{Naming, is_own_field, field_naming, input_naming}
 
 by_tests : (c : Code) (part : List ℕ) (name : VarName) (own variable list : Bool) → is_own_field c part ≡ own → bytes_eq part (codes "VARIABLE") ≡ variable → bytes_eq part (codes "LIST") ≡ list → length (field_naming c (part, name)) ≤ 1
 by_tests c part name false variable list e f g = rw e (omega arith)

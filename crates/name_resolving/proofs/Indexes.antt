@@ -2,7 +2,7 @@
 use Rattle.std.proofs.Common.{◌≡◌, ℕ, List, [], ◌∷◌, ◌++◌, length, Option, Some, None, sym, ◌∙◌}
 use Rattle.std.specs.Prelude.{position}
 use Rattle.scratch_values.specs.declared.names.VarName.{VarName}
-use Rattle.project_file.specs.Resolving.{same_id, same_name}
+use Rattle.project_spec.specs.Resolving.{same_id, same_name}
 use Rattle.name_resolving.specs.declared.index.Index.{Index}
 use Rattle.name_resolving.specs.FirstPlaces.{place_of, Notes}
 use Rattle.name_resolving.specs.Index.{NotesId, id_place_by, IsIndex}

@@ -1,9 +1,9 @@
 -- Names resolved one after another.
 use Rattle.std.proofs.Common.{◌≡◌, List, [], ◌∷◌, ◌++◌, length, refl, sym, ap, ◌∙◌, subst, append_assoc, append-nil, arith, length-append}
 use Rattle.scratch_values.specs.declared.names.VarRef.{VarRef}
-use Rattle.script_machine.specs.Program.{Records}
-use Rattle.project_file.specs.declared.blocks.Resolved.{Resolved}
-use Rattle.project_file.specs.Resolving.{Naming, Found, and_then, before, resolved_name, resolved_names}
+use Rattle.machine_spec.specs.Program.{Records}
+use Rattle.project_spec.specs.declared.blocks.Resolved.{Resolved}
+use Rattle.project_spec.specs.Resolving.{Naming, Found, and_then, before, resolved_name, resolved_names}
 use Rattle.name_resolving.specs.declared.scope.Scope.{Scope}
 use Rattle.name_resolving.specs.Scope.{IsScope}
 use Rattle.name_resolving.specs.Passing.{onto, Grows, Passes}

@@ -2,8 +2,8 @@
 use Rattle.std.proofs.Common.{◌≡◌, ℕ, ◌==◌, Bool, true, false, length, refl, sym, ◌∙◌, subst, arith}
 use Rattle.std.proofs.lemmas.Bool.Decides.{nat_tests}
 use Rattle.scratch_values.specs.declared.names.VarName.{VarName}
-use Rattle.script_machine.specs.Program.{Records, record_at, stage_number}
-use Rattle.project_file.specs.Resolving.{Sort, names_of}
+use Rattle.machine_spec.specs.Program.{Records, record_at, stage_number}
+use Rattle.project_spec.specs.Resolving.{Sort, names_of}
 use Rattle.name_resolving.specs.declared.scope.Scope.{Scope}
 use Rattle.name_resolving.specs.Directory.{IsDirectory}
 use Rattle.name_resolving.specs.Scope.{added_at, IsScope, AddsIf, NotesName}

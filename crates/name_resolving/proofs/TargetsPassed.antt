@@ -6,10 +6,10 @@ use Rattle.std.proofs.Math.Seq.{drop-cons, drop-length}
 use Rattle.std.proofs.lemmas.List.{get_or-map}
 use Rattle.std.proofs.lemmas.Option.{slice_get-get_or}
 use Rattle.block_table.specs.declared.table.BlockTable.{BlockTable}
-use Rattle.script_machine.specs.Program.{Records, record_at}
-use Rattle.project_file.specs.declared.blocks.Block.{Block}
-use Rattle.project_file.specs.declared.blocks.Resolved.{Resolved}
-use Rattle.project_file.specs.Resolving.{and_then, before, resolved_blocks, resolved_targets}
+use Rattle.machine_spec.specs.Program.{Records, record_at}
+use Rattle.project_spec.specs.declared.blocks.Block.{Block}
+use Rattle.project_spec.specs.declared.blocks.Resolved.{Resolved}
+use Rattle.project_spec.specs.Resolving.{and_then, before, resolved_blocks, resolved_targets}
 use Rattle.name_resolving.specs.declared.scope.Scope.{Scope}
 use Rattle.name_resolving.specs.Scope.{IsScope}
 use Rattle.name_resolving.specs.Room.{holdings, parts, HasRoom}

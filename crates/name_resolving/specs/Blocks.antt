@@ -2,10 +2,10 @@
 use Rattle.std.specs.Prelude.{◌≡◌, ℕ, Bool, false, List, [], slice_get, unwrap_or, Option, None, Some}
 use Rattle.std.specs.List.{sum_by}
 use Rattle.std.specs.Borrow.{Bor}
-use Rattle.script_machine.specs.Program.{Records}
-use Rattle.project_file.specs.declared.blocks.Block.{Block}
-use Rattle.project_file.specs.declared.blocks.Resolved.{Resolved}
-use Rattle.project_file.specs.Resolving.{resolved_blocks}
+use Rattle.machine_spec.specs.Program.{Records}
+use Rattle.project_spec.specs.declared.blocks.Block.{Block}
+use Rattle.project_spec.specs.declared.blocks.Resolved.{Resolved}
+use Rattle.project_spec.specs.Resolving.{resolved_blocks}
 use Rattle.name_resolving.specs.declared.scope.Scope.{Scope}
 use Rattle.name_resolving.specs.Passing.{Grows}
 use Rattle.name_resolving.specs.Room.{parts}

@@ -1,8 +1,8 @@
 -- The names of a target, as they are looked up.
 use Rattle.std.specs.Prelude.{◌≡◌, ℕ, length}
 use Rattle.scratch_values.specs.declared.names.VarName.{VarName}
-use Rattle.script_machine.specs.declared.records.TargetRecord.{TargetRecord}
-use Rattle.project_file.specs.Resolving.{Sort, OfVariable, OfList, names_of, with_added}
+use Rattle.machine_spec.specs.declared.records.TargetRecord.{TargetRecord}
+use Rattle.project_spec.specs.Resolving.{Sort, OfVariable, OfList, names_of, with_added}
 use Rattle.name_resolving.specs.declared.sort.Sort as code
 use Rattle.name_resolving.specs.declared.sort.Sort.TheVariants as code_sort
 use Rattle.name_resolving.specs.declared.index.Index.{Index}

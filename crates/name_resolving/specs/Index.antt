@@ -1,7 +1,7 @@
 -- Where names stand in a list of names, by id and by name.
 use Rattle.std.specs.Prelude.{◌≡◌, ℕ, List, Option, Some, None, position}
 use Rattle.scratch_values.specs.declared.names.VarName.{VarName}
-use Rattle.project_file.specs.Resolving.{same_id, same_name}
+use Rattle.project_spec.specs.Resolving.{same_id, same_name}
 use Rattle.name_resolving.specs.declared.first_places.FirstPlaces.{FirstPlaces}
 use Rattle.name_resolving.specs.declared.index.Index.{Index}
 use Rattle.name_resolving.specs.FirstPlaces.{place_of, Notes}

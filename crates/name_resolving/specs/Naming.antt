@@ -1,6 +1,6 @@
 -- Names in blocks, as the definitions see them.
 use Rattle.std.specs.Prelude.{List, [], ◌∷◌, Option, None, Some}
-use Rattle.project_file.specs.Resolving as told
+use Rattle.project_spec.specs.Resolving as told
 use Rattle.name_resolving.specs.declared.naming.Naming.{Naming}
 use Rattle.name_resolving.specs.Directory.{sort_in}
 

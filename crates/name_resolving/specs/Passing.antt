@@ -1,8 +1,8 @@
 -- What goes on while names are resolved one after another.
 use Rattle.std.specs.Prelude.{◌≡◌, ℕ, ◌+◌, ◌≤◌, List, ◌++◌, length}
-use Rattle.script_machine.specs.Program.{Records, record_at}
-use Rattle.project_file.specs.declared.blocks.Resolved.{Resolved}
-use Rattle.project_file.specs.Resolving.{Naming, Found, resolved_names}
+use Rattle.machine_spec.specs.Program.{Records, record_at}
+use Rattle.project_spec.specs.declared.blocks.Resolved.{Resolved}
+use Rattle.project_spec.specs.Resolving.{Naming, Found, resolved_names}
 use Rattle.name_resolving.specs.declared.scope.Scope.{Scope}
 use Rattle.name_resolving.specs.Room.{holdings}
 use Rattle.name_resolving.specs.Scope.{IsScope}

@@ -1,9 +1,9 @@
 -- How many variables and lists a target may come to have.
 use Rattle.std.specs.Prelude.{ℕ, ◌+◌, ◌<◌, ◌^◌, List, length, slice_get, unwrap_or, []}
 use Rattle.std.specs.List.{sum_by}
-use Rattle.script_machine.specs.declared.records.TargetRecord.{TargetRecord}
-use Rattle.script_machine.specs.Program.{Records, record_at}
-use Rattle.project_file.specs.declared.blocks.Block.{Block}
+use Rattle.machine_spec.specs.declared.records.TargetRecord.{TargetRecord}
+use Rattle.machine_spec.specs.Program.{Records, record_at}
+use Rattle.project_spec.specs.declared.blocks.Block.{Block}
 
 -- the variables and lists of a target
 abbrev pub holdings : TargetRecord → ℕ

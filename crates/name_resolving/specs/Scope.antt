@@ -1,9 +1,9 @@
 -- A target, and where what is named in its blocks stands.
 use Rattle.std.specs.Prelude.{◌≡◌, ℕ, ◌==◌, ◌<◌, Bool, true, false, length}
 use Rattle.scratch_values.specs.declared.names.VarName.{VarName}
-use Rattle.script_machine.specs.Lists.{changed_at}
-use Rattle.script_machine.specs.Program.{Records, record_at, stage_number}
-use Rattle.project_file.specs.Resolving.{Sort, with_added}
+use Rattle.machine_spec.specs.Lists.{changed_at}
+use Rattle.machine_spec.specs.Program.{Records, record_at, stage_number}
+use Rattle.project_spec.specs.Resolving.{Sort, with_added}
 use Rattle.name_resolving.specs.declared.directory.Directory.{Directory}
 use Rattle.name_resolving.specs.declared.scope.Scope.{Scope}
 use Rattle.name_resolving.specs.Directory.{IsDirectory, Adds}

@@ -2,8 +2,8 @@
 
 ghost use Rattle.std.specs.Prelude.{◌≡◌, ◌+◌, ◌<◌, ◌^◌, [], length, OnOk, IfOk};
 ghost use Rattle.std.specs.List.{flat_map};
-ghost use Rattle.script_machine.specs.Program.{record_at};
-ghost use Rattle.project_file.specs.Resolving.{field_naming, input_naming, names_in};
+ghost use Rattle.machine_spec.specs.Program.{record_at};
+ghost use Rattle.project_spec.specs.Resolving.{field_naming, input_naming, names_in};
 ghost use Rattle.target_records.specs.Records.{records_in};
 ghost use Rattle.name_resolving.specs.Naming.{listed};
 ghost use Rattle.name_resolving.specs.Passing.{Passes};
@@ -13,8 +13,8 @@ ghost use Rattle.name_resolving.specs.Scope.{IsScope};
 use crate::naming::{Naming, field_naming, input_naming};
 use crate::scope::Scope;
 use lists::ListOf;
-use project_file::{Block, Code, Input, Resolved};
 use project_json::Text;
+use project_spec::{Block, Code, Input, Resolved};
 use scratch_values::VarName;
 use std::alloc::{AllocError, Global};
 use target_records::Records;

@@ -1,15 +1,15 @@
 //! Where the variables and the lists of a target stand.
 
 ghost use Rattle.std.specs.Prelude.{◌≡◌, length, OnOk, IfOk};
-ghost use Rattle.script_machine.specs.declared.records.TargetRecord.{TargetRecord as Target};
-ghost use Rattle.project_file.specs.Resolving.{names_of, with_added};
+ghost use Rattle.machine_spec.specs.declared.records.TargetRecord.{TargetRecord as Target};
+ghost use Rattle.project_spec.specs.Resolving.{names_of, with_added};
 ghost use Rattle.target_records.specs.Held.{IsSmall};
 ghost use Rattle.name_resolving.specs.Directory.{Adds, IsDirectory, index_of, sort_in};
 
 use crate::index::Index;
 use crate::sort::Sort;
+use machine_spec::TargetRecord;
 use scratch_values::VarName;
-use script_machine::TargetRecord;
 use std::alloc::{AllocError, Global};
 
 /// The index of the variables of a target, and that of its lists.

@@ -2,7 +2,7 @@
 
 ghost use Rattle.std.specs.Prelude.{◌≡◌, List};
 ghost use Rattle.scratch_values.specs.declared.names.VarName.{VarName as Name};
-ghost use Rattle.project_file.specs.Resolving.{found_in};
+ghost use Rattle.project_spec.specs.Resolving.{found_in};
 ghost use Rattle.name_resolving.specs.Finding.{found_by};
 
 use crate::index::Index;

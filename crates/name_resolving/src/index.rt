@@ -5,8 +5,8 @@ ghost use Rattle.scratch_values.specs.declared.names.VarName.{VarName as Name};
 ghost use Rattle.name_resolving.specs.Index.{IsIndex, NotesId, id_place, name_place};
 
 use crate::first_places::FirstPlaces;
+use machine_spec::{ListRecord, VariableRecord};
 use scratch_values::VarName;
-use script_machine::{ListRecord, VariableRecord};
 use std::alloc::{AllocError, Global};
 
 // Notes the id of a name, where it has one.

@@ -1,15 +1,15 @@
 //! What a field or an input of a block names.
 
 ghost use Rattle.std.specs.Prelude.{◌≡◌, bytes_eq, option_map};
-ghost use Rattle.project_file.specs.Resolving.{field_naming, field_sort, input_naming, is_own_field};
+ghost use Rattle.project_spec.specs.Resolving.{field_naming, field_sort, input_naming, is_own_field};
 ghost use Rattle.std.specs.List.{list_any};
 ghost use Rattle.name_resolving.specs.Directory.{sort_in};
 ghost use Rattle.name_resolving.specs.Naming.{listed};
 
 use crate::sort::Sort;
 use opcode_table::spec;
-use project_file::{Code, Input};
 use project_json::Text;
+use project_spec::{Code, Input};
 use scratch_values::VarName;
 
 /// The name of a variable or a list, and the field or the input of a block that has it.

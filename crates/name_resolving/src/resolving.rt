@@ -1,7 +1,7 @@
 //! Resolving the names of all blocks.
 
 ghost use Rattle.std.specs.Prelude.{◌≡◌, ℕ, length, map, IfOk};
-ghost use Rattle.project_file.specs.Resolving.{resolved_targets};
+ghost use Rattle.project_spec.specs.Resolving.{resolved_targets};
 ghost use Rattle.target_records.specs.Records.{records_in};
 ghost use Rattle.name_resolving.specs.Blocks.{flag_of, flags_by};
 ghost use Rattle.std.specs.Prelude.{slice_get};
@@ -11,8 +11,8 @@ use crate::scope::Scope;
 use crate::target::resolve_target;
 use block_table::BlockTable;
 use lists::ListOf;
-use project_file::Resolved;
-use script_machine::TargetId;
+use machine_spec::TargetId;
+use project_spec::Resolved;
 use std::alloc::{AllocError, Global};
 use target_records::Records;
 

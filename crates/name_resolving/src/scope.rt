@@ -2,8 +2,8 @@
 
 ghost use Rattle.std.specs.Prelude.{◌≡◌, ◌+◌, ◌<◌, ◌≤◌, ◌^◌, length, OnOk, IfOk};
 ghost use Rattle.scratch_values.specs.declared.names.VarName.{VarName as Name};
-ghost use Rattle.script_machine.specs.Program.{record_at};
-ghost use Rattle.project_file.specs.Resolving.{names_of, resolved_name};
+ghost use Rattle.machine_spec.specs.Program.{record_at};
+ghost use Rattle.project_spec.specs.Resolving.{names_of, resolved_name};
 ghost use Rattle.target_records.specs.Records.{records_in};
 ghost use Rattle.name_resolving.specs.Directory.{Adds, sort_in};
 ghost use Rattle.name_resolving.specs.Naming.{naming_in};
@@ -14,8 +14,8 @@ use crate::directory::Directory;
 use crate::finding::found;
 use crate::naming::Naming;
 use crate::sort::Sort;
+use machine_spec::TargetId;
 use scratch_values::{VarName, VarRef};
-use script_machine::TargetId;
 use std::alloc::{AllocError, Global};
 use target_records::Records;
 

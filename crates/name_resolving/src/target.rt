@@ -2,7 +2,7 @@
 
 ghost use Rattle.std.specs.Prelude.{◌≡◌, ◌+◌, ◌<◌, ◌^◌, length, IfOk};
 ghost use Rattle.std.specs.List.{sum_by};
-ghost use Rattle.script_machine.specs.Program.{record_at};
+ghost use Rattle.machine_spec.specs.Program.{record_at};
 ghost use Rattle.target_records.specs.Records.{records_in};
 ghost use Rattle.name_resolving.specs.Blocks.{PassesBlocks, flag};
 ghost use Rattle.name_resolving.specs.Room.{holdings, parts};
@@ -11,7 +11,7 @@ ghost use Rattle.name_resolving.specs.Scope.{IsScope};
 use crate::block::resolve_block;
 use crate::scope::Scope;
 use lists::ListOf;
-use project_file::{Block, Resolved};
+use project_spec::{Block, Resolved};
 use std::alloc::{AllocError, Global};
 use target_records::Records;
 

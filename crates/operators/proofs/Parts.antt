@@ -4,7 +4,7 @@ use Rattle.std.specs.Prelude.{◌==◌, ◌&&◌, ◌||◌}
 use Rattle.std.proofs.lemmas.Bool.{false≢true}
 use Rattle.std.proofs.lemmas.Bool.Decides.{nat_tests}
 use Rattle.scratch_values.specs.Folding.{HasPart}
-use Rattle.script_machine.specs.Texts.{begins_with, has_part}
+use Rattle.machine_spec.specs.Texts.{begins_with, has_part}
 
 same_head : (c d : ℕ) → (c == d) ≡ true → c ≡ d
 same_head c d h = grind (arith, nat_tests)

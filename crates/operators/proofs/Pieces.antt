@@ -9,8 +9,8 @@ use Rattle.scratch_values.specs.declared.value.Value.TheVariants.{Text}
 use Rattle.scratch_values.specs.Longest.{longest}
 use Rattle.scratch_values.specs.Value.{text_of}
 use Rattle.script_words.specs.declared.stops.Stop.{Stop}
-use Rattle.script_machine.specs.Outcome.{Goes, TooLong, StopIs}
-use Rattle.script_machine.specs.Texts.{text_value}
+use Rattle.machine_spec.specs.Outcome.{Goes, TooLong, StopIs}
+use Rattle.machine_spec.specs.Texts.{text_value}
 use Rattle.operators.specs.Pieces.{piece}
 
 pub length-pieces : (first : List ℕ) (spaced : Bool) (items : List Value) → length (first ++ flat_map (piece spaced) items) ≡ length first + sum_by (λ v. length (piece spaced v)) items

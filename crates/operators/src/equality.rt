@@ -6,7 +6,7 @@ ghost use Rattle.std.specs.List.{list_any};
 ghost use Rattle.std.specs.Ordering.{is_eq, nat_cmp};
 ghost use Rattle.scratch_values.specs.Comparison as comparison;
 ghost use Rattle.scratch_values.specs.Folding.{folded_chars};
-ghost use Rattle.script_machine.specs.Reporters as machine;
+ghost use Rattle.machine_spec.specs.Reporters as machine;
 
 use crate::written::Written;
 use caseless::default_caseless_match_str;

@@ -2,7 +2,7 @@
 
 ghost use Rattle.std.specs.Prelude.{◌≡◌, IfOk};
 ghost use Rattle.scratch_values.specs.Folding.{folded};
-ghost use Rattle.script_machine.specs.Reporters.{mathop};
+ghost use Rattle.machine_spec.specs.Reporters.{mathop};
 
 use scratch_number::{Num, abs, acos, asin, atan, ceiling, cos, floor, of_whole, sin, sqrt, tan};
 use scratch_values::fold;

@@ -3,9 +3,9 @@
 ghost use Rattle.std.specs.Prelude.{◌≡◌, ◌≤◌, ◌*◌, ◌∷◌, ◌++◌, IfOk, OnOk, flat_map, length, map, string_bytes};
 ghost use Rattle.std.specs.List.{concat, join_with_byte, list_all, sum_by};
 ghost use Rattle.scratch_values.specs.Value.{text_of};
-ghost use Rattle.script_machine.specs.DataRows.{most_items};
-ghost use Rattle.script_machine.specs.Outcome.{Goes, StopIs};
-ghost use Rattle.script_machine.specs.Texts as machine;
+ghost use Rattle.machine_spec.specs.DataRows.{most_items};
+ghost use Rattle.machine_spec.specs.Outcome.{Goes, StopIs};
+ghost use Rattle.machine_spec.specs.Texts as machine;
 ghost use Rattle.operators.specs.Pieces.{piece};
 
 use crate::texts::has_one_char;

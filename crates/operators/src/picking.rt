@@ -4,9 +4,9 @@ ghost use Rattle.std.specs.Prelude.{◌≡◌, ◌≤◌, ◌==◌, ◌*◌, ◌
 ghost use Rattle.std.specs.List.{list_any};
 ghost use Rattle.scratch_number.specs.Arithmetic.{million};
 ghost use Rattle.scratch_number.specs.Number.{floor_by, limit, number};
-ghost use Rattle.script_machine.specs.Outcome.{Goes, StopIs, then_do};
-ghost use Rattle.script_machine.specs.Random as random;
-ghost use Rattle.script_machine.specs.Words.{draw, made_of, seen_words};
+ghost use Rattle.machine_spec.specs.Outcome.{Goes, StopIs, then_do};
+ghost use Rattle.machine_spec.specs.Random as random;
+ghost use Rattle.machine_spec.specs.Words.{draw, made_of, seen_words};
 
 use scratch_number::{Num, add, of_millionths, order};
 use scratch_values::{Value, to_number};

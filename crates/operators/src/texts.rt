@@ -5,10 +5,10 @@ ghost use Rattle.scratch_number.specs.Number.{floor_by};
 ghost use Rattle.scratch_values.specs.Index.{place_of, whole_place};
 ghost use Rattle.scratch_values.specs.Comparison.{folded_of};
 ghost use Rattle.scratch_values.specs.Value.{text_of};
-ghost use Rattle.script_machine.specs.Numbers.{whole};
-ghost use Rattle.script_machine.specs.Outcome.{Goes, StopIs};
-ghost use Rattle.script_machine.specs.Reporters as machine;
-ghost use Rattle.script_machine.specs.Texts.{char_text, has_part, letter_at, text_value};
+ghost use Rattle.machine_spec.specs.Numbers.{whole};
+ghost use Rattle.machine_spec.specs.Outcome.{Goes, StopIs};
+ghost use Rattle.machine_spec.specs.Reporters as machine;
+ghost use Rattle.machine_spec.specs.Texts.{char_text, has_part, letter_at, text_value};
 ghost use Rattle.scratch_values.specs.declared.value.Value.TheVariants as values;
 
 use crate::written::Written;

@@ -5,25 +5,25 @@ use Rattle.std.specs.FinMap.{get}
 use Rattle.sv_channels.specs.Files.{Files}
 use Rattle.sha2.specs.Sha256.{sha256}
 use Rattle.script_words.specs.Words.{answers, seeded, without}
-use Rattle.script_machine.specs.First.{first_world}
-use Rattle.script_machine.specs.Output.{Output, Ending as RunEnding, Whole, BadLine, Limited, played}
-use Rattle.script_machine.specs.Program.{Program}
-use Rattle.script_machine.specs.ScriptText.{lines_of}
-use Rattle.script_machine.specs.Tasks.{Task}
-use Rattle.script_machine.specs.World.{World}
-use Rattle.project_file.specs.Refusals.{IsProject}
+use Rattle.machine_spec.specs.First.{first_world}
+use Rattle.machine_spec.specs.Output.{Output, Ending as RunEnding, Whole, BadLine, Limited, played}
+use Rattle.machine_spec.specs.Program.{Program}
+use Rattle.machine_spec.specs.ScriptText.{lines_of}
+use Rattle.machine_spec.specs.Tasks.{Task}
+use Rattle.machine_spec.specs.World.{World}
+use Rattle.project_spec.specs.Refusals.{IsProject}
 use Rattle.saved_text.specs.Ranges.{IsRun, IsTask}
 use Rattle.saved_text.specs.Saved.{snapshot}
 use Rattle.saved_text.specs.Saving.{longest}
-use Rattle.saved_rules.specs.Basis.{Basis}
-use Rattle.saved_rules.specs.Laws.{OneAnswer}
-use Rattle.saved_rules.specs.Legal.{told}
-use Rattle.saved_rules.specs.Refusals.{IsAccepted as IsSavedRun}
-use Rattle.saved_rules.specs.RunShapes.{Told}
-use Rattle.legal_words.specs.Words.{words_after}
-use Rattle.legal_worlds.specs.Runs.{IsLegalRun}
-use Rattle.legal_runs.specs.Good.{IsDigest, IsGood}
-use Rattle.legal_runs.specs.Worlds.{world_told}
+use Rattle.saved_spec.specs.Basis.{Basis}
+use Rattle.saved_spec.specs.Laws.{OneAnswer}
+use Rattle.saved_spec.specs.Legal.{told}
+use Rattle.saved_spec.specs.Refusals.{IsAccepted as IsSavedRun}
+use Rattle.saved_spec.specs.RunShapes.{Told}
+use Rattle.laws_of_words.specs.Words.{words_after}
+use Rattle.laws_of_worlds.specs.Runs.{IsLegalRun}
+use Rattle.laws_of_saving.specs.Good.{IsDigest, IsGood}
+use Rattle.laws_of_saving.specs.Worlds.{world_told}
 use Rattle.player.specs.Command.{Command, Form, ResumeForm, check, play, resume}
 use Rattle.player.specs.Limits.{project_limit, saved_limit, script_limit}
 use Rattle.player.specs.Promise.{accepted, Bases, continued, Continues, Ending, ran, unsaved, Outcome, Resumable, SavesAgain, TellsAgain, all_of, at_ending, limit_save_line, fetched, outcome_of, output_from, output_of, put_or_told, resume_outcome, text_from, text_of_run, words_of}

@@ -8,16 +8,16 @@ use Rattle.sv_channels.specs.Files.{Files}
 use Rattle.sv_channels.specs.Shelf.{IsHeld}
 use Rattle.sv_channels.proofs.Gains.{Gained-nil}
 use Rattle.project_json.proofs.Results.{json_one_tree, text_no_fault, same_fault}
-use Rattle.project_file.specs.declared.refusals.Refusal.{Refusal}
-use Rattle.project_file.specs.declared.refusals.Refusal.TheVariants as refusal
-use Rattle.project_file.proofs.OneRefusal.{JsonLaws, one_refusal, accepted_is_not_refused, one_file}
+use Rattle.project_spec.specs.declared.refusals.Refusal.{Refusal}
+use Rattle.project_spec.specs.declared.refusals.Refusal.TheVariants as refusal
+use Rattle.project_spec.proofs.OneRefusal.{JsonLaws, one_refusal, accepted_is_not_refused, one_file}
 use Rattle.project_check.specs.Loaded.{Loads as LoadsProject}
-use Rattle.script_machine.specs.Program.{Program}
+use Rattle.machine_spec.specs.Program.{Program}
 use Rattle.rand_core.specs.Stream.{Stream}
 use Rattle.script_words.specs.Words.{without, answers, seeded}
-use Rattle.script_machine.specs.Output.{Output, Ending as RunEnding, Whole, BadLine, Limited}
-use Rattle.script_machine.specs.Tasks.{Task}
-use Rattle.script_machine.specs.World.{World}
+use Rattle.machine_spec.specs.Output.{Output, Ending as RunEnding, Whole, BadLine, Limited}
+use Rattle.machine_spec.specs.Tasks.{Task}
+use Rattle.machine_spec.specs.World.{World}
 use Rattle.saved_text.specs.Saving.{longest}
 use Rattle.player.specs.Limits.{project_limit, script_limit}
 use Rattle.player.specs.Command.{Form}

@@ -7,12 +7,12 @@ use Rattle.std.proofs.Math.Seq.{take-append-add}
 use Rattle.sv_channels.specs.Counts.{next_count}
 use Rattle.sv_channels.specs.Sink.{Gained}
 use Rattle.sv_channels.proofs.Gains.{Gained-nil, Gained-trans}
-use Rattle.script_machine.specs.Outcome.{Outcome}
-use Rattle.script_machine.specs.World.{World}
-use Rattle.script_machine.specs.Tasks.{Task}
-use Rattle.script_machine.specs.declared.lines.LineRefusal.{LineRefusal}
-use Rattle.script_machine.specs.declared.lines.LineRefusal.TheVariants as line_refusal
-use Rattle.script_machine.specs.Output.{Output, Ending, BadLine, in_front}
+use Rattle.machine_spec.specs.Outcome.{Outcome}
+use Rattle.machine_spec.specs.World.{World}
+use Rattle.machine_spec.specs.Tasks.{Task}
+use Rattle.machine_spec.specs.declared.lines.LineRefusal.{LineRefusal}
+use Rattle.machine_spec.specs.declared.lines.LineRefusal.TheVariants as line_refusal
+use Rattle.machine_spec.specs.Output.{Output, Ending, BadLine, in_front}
 use Rattle.player.specs.Promise.{Wrote, Writes, counted, ran, ending_at}
 use Rattle.player.specs.Stages.{HasMet, IsLineEnd, LineEnds, LineWrote, LineWrites, PlayedTo}
 use Rattle.run_save.specs.declared.status.Limit.{Limit as LimitMet}

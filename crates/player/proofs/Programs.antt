@@ -1,14 +1,14 @@
 -- The bytes of a project file tell one program.
 use Rattle.std.proofs.Common.{◌≡◌, ℕ, suc, ◌+◌, Bool, true, false, List, [], ◌∷◌, Some, refl, sym, ap, ◌∙◌, subst, arith}
 use Rattle.std.specs.Prelude.{◌↔◌, slice_get}
-use Rattle.script_machine.specs.Program.{Program, Records}
-use Rattle.project_file.specs.declared.blocks.Block.{Block}
-use Rattle.project_file.specs.Linked.{IsChecked}
-use Rattle.project_file.specs.Reading.{File, blocks_in}
-use Rattle.project_file.specs.Refusals.{TellsChecked, IsProgram, IsProject}
-use Rattle.project_file.specs.Resolving.{and_then, before, names_in, resolved_names, resolved_blocks, resolved_targets}
-use Rattle.project_file.specs.Trees.{program}
-use Rattle.project_file.proofs.OneRefusal.{JsonLaws, one_file}
+use Rattle.machine_spec.specs.Program.{Program, Records}
+use Rattle.project_spec.specs.declared.blocks.Block.{Block}
+use Rattle.project_spec.specs.Linked.{IsChecked}
+use Rattle.project_spec.specs.Reading.{File, blocks_in}
+use Rattle.project_spec.specs.Refusals.{TellsChecked, IsProgram, IsProject}
+use Rattle.project_spec.specs.Resolving.{and_then, before, names_in, resolved_names, resolved_blocks, resolved_targets}
+use Rattle.project_spec.specs.Trees.{program}
+use Rattle.project_spec.proofs.OneRefusal.{JsonLaws, one_file}
 
 same_truth : (a b : Bool) (P : Type 0) → (a ≡ true) ↔ P → (b ≡ true) ↔ P → a ≡ b
 same_truth true true P p q = refl

@@ -5,21 +5,21 @@ use Rattle.std.specs.FinMap.{get}
 use Rattle.sv_channels.specs.Counts.{NoneRose}
 use Rattle.sv_channels.specs.Files.{Files}
 use Rattle.sha2.specs.Sha256.{sha256}
-use Rattle.project_file.specs.Reading.{blocks_in}
-use Rattle.project_file.specs.Refusals.{IsProgram}
-use Rattle.project_file.specs.declared.refusals.Refusal.{Refusal}
-use Rattle.project_file.proofs.OneRefusal.{one_refusal, accepted_is_not_refused, one_file}
-use Rattle.script_machine.specs.Output.{played}
-use Rattle.script_machine.specs.ScriptText.{lines_of}
-use Rattle.script_machine.specs.Tasks.{Task}
-use Rattle.script_machine.specs.World.{World}
-use Rattle.saved_rules.specs.Basis.{Basis}
-use Rattle.saved_rules.specs.Laws.{OneAnswer, OneRefusal}
-use Rattle.saved_rules.specs.Refusals.{IsRefused, IsAccepted as IsSavedRun}
-use Rattle.saved_rules.specs.RunShapes.{Told}
-use Rattle.saved_rules.specs.declared.refusals.SaveRefusal.{SaveRefusal}
-use Rattle.saved_rules.specs.declared.refusals.SaveRefusal.TheVariants as save_refusal
-use Rattle.legal_runs.specs.Worlds.{world_told}
+use Rattle.project_spec.specs.Reading.{blocks_in}
+use Rattle.project_spec.specs.Refusals.{IsProgram}
+use Rattle.project_spec.specs.declared.refusals.Refusal.{Refusal}
+use Rattle.project_spec.proofs.OneRefusal.{one_refusal, accepted_is_not_refused, one_file}
+use Rattle.machine_spec.specs.Output.{played}
+use Rattle.machine_spec.specs.ScriptText.{lines_of}
+use Rattle.machine_spec.specs.Tasks.{Task}
+use Rattle.machine_spec.specs.World.{World}
+use Rattle.saved_spec.specs.Basis.{Basis}
+use Rattle.saved_spec.specs.Laws.{OneAnswer, OneRefusal}
+use Rattle.saved_spec.specs.Refusals.{IsRefused, IsAccepted as IsSavedRun}
+use Rattle.saved_spec.specs.RunShapes.{Told}
+use Rattle.saved_spec.specs.declared.refusals.SaveRefusal.{SaveRefusal}
+use Rattle.saved_spec.specs.declared.refusals.SaveRefusal.TheVariants as save_refusal
+use Rattle.laws_of_saving.specs.Worlds.{world_told}
 use Rattle.player.specs.Command.{ResumeForm}
 use Rattle.player.specs.Limits.{project_limit, saved_limit, script_limit}
 use Rattle.player.specs.Promise.{Loading, refused, accepted, Bases, Continuing, rejected, continued, Continues, OfFile, OfSaved, too_large, not_continued, unloaded, Outcome, ends, all_of, fetched, loaded, told_to, output_from, text_from, text_of_run, resume_outcome, IsFetched, IsLoaded, IsReady, AnswerCause, FaultCause, HidesNothing, IsUnshelved, CallsOf}

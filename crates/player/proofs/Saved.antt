@@ -9,9 +9,9 @@ use Rattle.sv_channels.specs.Counts.{next_count, Rose, NoneRose}
 use Rattle.sv_channels.specs.Files.{Files}
 use Rattle.sv_channels.specs.Sink.{Gained, GainedPart}
 use Rattle.sv_channels.proofs.Gains.{Gained-nil, Gained-trans}
-use Rattle.script_machine.specs.Output.{Output, Ending as RunEnding, Whole, BadLine, Limited, ends}
-use Rattle.script_machine.specs.Tasks.{Task}
-use Rattle.script_machine.specs.World.{World}
+use Rattle.machine_spec.specs.Output.{Output, Ending as RunEnding, Whole, BadLine, Limited, ends}
+use Rattle.machine_spec.specs.Tasks.{Task}
+use Rattle.machine_spec.specs.World.{World}
 use Rattle.saved_text.specs.Saving.{longest}
 use Rattle.player.specs.Promise.{Ending, ran, unsaved, Outcome, PutFailed, Shelved, Wrote, Writes, only_written, all_of, at_ending, counted, limit_save_line, put_or_told, ending_at, is_whole}
 use Rattle.player.specs.Saving.{EndsAs, PutEnds, PutSteadily, ShelfNow, SinkNow}

@@ -6,21 +6,21 @@ use Rattle.std.proofs.lemmas.Bool.Decides.{nat_tests}
 use Rattle.std.proofs.lemmas.List.{length-append}
 use Rattle.sv_channels.specs.Files.{Files}
 use Rattle.sha2.specs.Sha256.{sha256}
-use Rattle.script_machine.specs.First.{first_world}
-use Rattle.script_machine.specs.Output.{Ending as RunEnding, Output, Whole, BadLine, Limited, ends, in_front, played}
-use Rattle.script_machine.specs.Program.{Program}
-use Rattle.script_machine.specs.ScriptText.{lines_of}
-use Rattle.script_machine.specs.Tasks.{Task}
-use Rattle.script_machine.specs.World.{World}
+use Rattle.machine_spec.specs.First.{first_world}
+use Rattle.machine_spec.specs.Output.{Ending as RunEnding, Output, Whole, BadLine, Limited, ends, in_front, played}
+use Rattle.machine_spec.specs.Program.{Program}
+use Rattle.machine_spec.specs.ScriptText.{lines_of}
+use Rattle.machine_spec.specs.Tasks.{Task}
+use Rattle.machine_spec.specs.World.{World}
 use Rattle.saved_text.specs.Saved.{saved_text, snapshot}
 use Rattle.saved_text.specs.Saving.{longest}
 use Rattle.saved_text.specs.Tasks.{task}
-use Rattle.saved_rules.specs.Basis.{Basis}
-use Rattle.saved_rules.specs.Laws.{OneAnswer}
-use Rattle.saved_rules.specs.RunShapes.{Told}
-use Rattle.legal_runs.specs.Worlds.{world_told}
-use Rattle.resumed_runs.specs.Laws.{WorldsGoOn}
-use Rattle.resumed_runs.specs.Parts.{AlikeButRedraw, AreAlike, EndAlike, ending_moved, moved_on}
+use Rattle.saved_spec.specs.Basis.{Basis}
+use Rattle.saved_spec.specs.Laws.{OneAnswer}
+use Rattle.saved_spec.specs.RunShapes.{Told}
+use Rattle.laws_of_saving.specs.Worlds.{world_told}
+use Rattle.laws_of_resuming.specs.Laws.{WorldsGoOn}
+use Rattle.laws_of_resuming.specs.Parts.{AlikeButRedraw, AreAlike, EndAlike, ending_moved, moved_on}
 use Rattle.player.specs.Command.{Form, ResumeForm}
 use Rattle.player.specs.Laws.{AreCalls, EndingsAgree, Parts, SaveAlike, TwoAreOne}
 use Rattle.player.specs.Limits.{project_limit, saved_limit, script_limit}

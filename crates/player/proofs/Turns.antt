@@ -3,16 +3,16 @@ use Rattle.std.proofs.Common.{◌≡◌, ℕ, ◌+◌, List, [], ◌∷◌, Opti
 use Rattle.std.specs.Prelude.{drop, option_map, codes, ◌++◌}
 use Rattle.std.specs.Fmt.{digits}
 use Rattle.script_words.specs.declared.stops.Stop.TheVariants as stop
-use Rattle.script_machine.specs.declared.lines.Line.{Line}
-use Rattle.script_machine.specs.declared.lines.LineRefusal.{LineRefusal}
-use Rattle.script_machine.specs.declared.lines.LineRefusal.TheVariants as line_refusal
-use Rattle.script_machine.specs.Line.{after}
-use Rattle.script_machine.specs.Outcome.{Outcome, Goes, Full, TooLong, Spent}
-use Rattle.script_machine.specs.Output.{Output, Whole, BadLine, Limited, ends, in_front, limit_line, played_line, played_reading, played}
-use Rattle.script_machine.specs.Program.{Program}
-use Rattle.script_machine.specs.ScriptText.{Reading, Good, Refused, reading_of, clock_after}
-use Rattle.script_machine.specs.Tasks.{Task}
-use Rattle.script_machine.specs.World.{World}
+use Rattle.machine_spec.specs.declared.lines.Line.{Line}
+use Rattle.machine_spec.specs.declared.lines.LineRefusal.{LineRefusal}
+use Rattle.machine_spec.specs.declared.lines.LineRefusal.TheVariants as line_refusal
+use Rattle.machine_spec.specs.Line.{after}
+use Rattle.machine_spec.specs.Outcome.{Outcome, Goes, Full, TooLong, Spent}
+use Rattle.machine_spec.specs.Output.{Output, Whole, BadLine, Limited, ends, in_front, limit_line, played_line, played_reading, played}
+use Rattle.machine_spec.specs.Program.{Program}
+use Rattle.machine_spec.specs.ScriptText.{Reading, Good, Refused, reading_of, clock_after}
+use Rattle.machine_spec.specs.Tasks.{Task}
+use Rattle.machine_spec.specs.World.{World}
 use Rattle.input_script.specs.Reader.{Reader, first_reading, next_reading, Refuses}
 use Rattle.player.specs.Promise.{ran, ending_at}
 use Rattle.player.specs.Stages.{line_writes, HasMet, LineEnds}

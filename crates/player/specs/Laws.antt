@@ -2,13 +2,13 @@
 use Rattle.std.specs.Prelude.{◌≡◌, ℕ, ◌≤◌, List, ◌++◌, length, Option, None, Some}
 use Rattle.std.specs.FinMap.{get}
 use Rattle.sv_channels.specs.Files.{Files}
-use Rattle.script_machine.specs.Output.{Whole}
-use Rattle.script_machine.specs.ScriptText.{lines_of}
-use Rattle.script_machine.specs.Tasks.{Task}
-use Rattle.script_machine.specs.World.{World}
-use Rattle.saved_rules.specs.Basis.{Basis}
-use Rattle.saved_rules.specs.RunShapes.{Told}
-use Rattle.resumed_runs.specs.Parts.{EndAlike, EndsALine, ending_moved}
+use Rattle.machine_spec.specs.Output.{Whole}
+use Rattle.machine_spec.specs.ScriptText.{lines_of}
+use Rattle.machine_spec.specs.Tasks.{Task}
+use Rattle.machine_spec.specs.World.{World}
+use Rattle.saved_spec.specs.Basis.{Basis}
+use Rattle.saved_spec.specs.RunShapes.{Told}
+use Rattle.laws_of_resuming.specs.Parts.{EndAlike, EndsALine, ending_moved}
 use Rattle.player.specs.Command.{Form, ResumeForm}
 use Rattle.player.specs.Limits.{project_limit, script_limit}
 use Rattle.player.specs.Promise.{accepted, continued, Continues, Ending, ran, Outcome, TellsAgain, outcome_of, resume_outcome}

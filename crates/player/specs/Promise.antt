@@ -1,9 +1,9 @@
 -- THE PROMISE OF `play`, in words that the files beside this one define.
 --
--- The machine that it speaks of is that of script_machine/specs: script trees, threads with what is left to do, slices,
+-- The machine that it speaks of is that of machine_spec/specs: script trees, threads with what is left to do, slices,
 -- passes, frames. A frame's text is that of FrameText there; Output goes through the lines of a script, which ScriptText
 -- reads; the text of a saved run is that of saved_text/specs, Saved; Command reads the words; Limits names the numbers. Which project files are accepted, the refusal of the others, and
--- the program of an accepted file, is that of project_file/specs, Refusals.
+-- the program of an accepted file, is that of project_spec/specs, Refusals.
 use Rattle.std.specs.Prelude.{◌≡◌, ◌≢◌, ◌⊎◌, ℕ, zero, suc, ◌+◌, ◌<◌, ◌≤◌, nat_lt, Bool, true, false, List, [], ◌∷◌, ◌++◌, length, map, take, codes, Option, None, Some, IfSome, IsSome, if◌then◌else◌}
 use Rattle.std.specs.Fmt.{decimal}
 use Rattle.std.specs.List.{concat}
@@ -15,25 +15,25 @@ use Rattle.sv_channels.specs.Sink.{Gained, GainedPart}
 use Rattle.sha2.specs.Sha256.{sha256}
 use Rattle.script_words.specs.Words.{answers, seeded}
 use Rattle.script_words.specs.declared.stops.Stop.TheVariants as stop
-use Rattle.script_machine.specs.declared.lines.LineRefusal.TheVariants as line_refusal
-use Rattle.script_machine.specs.Words.{Words}
-use Rattle.script_machine.specs.Program.{Program}
-use Rattle.script_machine.specs.First.{first_world}
-use Rattle.script_machine.specs.FrameText.{line}
-use Rattle.script_machine.specs.ScriptText.{lines_of}
-use Rattle.script_machine.specs.Output.{Output, Ending as RunEnding, Whole, BadLine, Limited, played}
-use Rattle.script_machine.specs.Tasks.{Task}
-use Rattle.script_machine.specs.World.{World}
-use Rattle.project_file.specs.Reading.{File, blocks_in}
-use Rattle.project_file.specs.Refusals.{IsRefusal, IsAccepted, IsProgram, IsProject}
-use Rattle.project_file.specs.declared.refusals.Refusal.{Refusal}
+use Rattle.machine_spec.specs.declared.lines.LineRefusal.TheVariants as line_refusal
+use Rattle.machine_spec.specs.Words.{Words}
+use Rattle.machine_spec.specs.Program.{Program}
+use Rattle.machine_spec.specs.First.{first_world}
+use Rattle.machine_spec.specs.FrameText.{line}
+use Rattle.machine_spec.specs.ScriptText.{lines_of}
+use Rattle.machine_spec.specs.Output.{Output, Ending as RunEnding, Whole, BadLine, Limited, played}
+use Rattle.machine_spec.specs.Tasks.{Task}
+use Rattle.machine_spec.specs.World.{World}
+use Rattle.project_spec.specs.Reading.{File, blocks_in}
+use Rattle.project_spec.specs.Refusals.{IsRefusal, IsAccepted, IsProgram, IsProject}
+use Rattle.project_spec.specs.declared.refusals.Refusal.{Refusal}
 use Rattle.project_check.specs.Counts.{block_count}
-use Rattle.legal_runs.specs.Worlds.{world_told}
-use Rattle.saved_rules.specs.Basis.{Basis}
-use Rattle.saved_rules.specs.Refusals.{IsRefused, IsAccepted as IsSavedRun}
-use Rattle.saved_rules.specs.RunShapes.{Told}
-use Rattle.saved_rules.specs.declared.refusals.SaveRefusal.{SaveRefusal}
-use Rattle.saved_rules.specs.declared.refusals.SaveRefusal.TheVariants as save_refusal
+use Rattle.laws_of_saving.specs.Worlds.{world_told}
+use Rattle.saved_spec.specs.Basis.{Basis}
+use Rattle.saved_spec.specs.Refusals.{IsRefused, IsAccepted as IsSavedRun}
+use Rattle.saved_spec.specs.RunShapes.{Told}
+use Rattle.saved_spec.specs.declared.refusals.SaveRefusal.{SaveRefusal}
+use Rattle.saved_spec.specs.declared.refusals.SaveRefusal.TheVariants as save_refusal
 use Rattle.saved_text.specs.Saved.{snapshot, saved_text}
 use Rattle.saved_text.specs.Saving.{longest}
 use Rattle.saved_text.specs.Tasks.{task}

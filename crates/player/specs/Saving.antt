@@ -3,14 +3,14 @@ use Rattle.std.specs.Prelude.{◌≡◌, ◌⊎◌, ℕ, ◌≤◌, List, Option
 use Rattle.sv_channels.specs.Counts.{Rose, NoneRose}
 use Rattle.sv_channels.specs.Files.{Files}
 use Rattle.sv_channels.specs.Shelf.{Puts, KeepsOthers}
-use Rattle.script_machine.specs.Output.{Output, Ending as RunEnding, Whole}
-use Rattle.script_machine.specs.Tasks.{Task}
-use Rattle.script_machine.specs.World.{World}
+use Rattle.machine_spec.specs.Output.{Output, Ending as RunEnding, Whole}
+use Rattle.machine_spec.specs.Tasks.{Task}
+use Rattle.machine_spec.specs.World.{World}
 use Rattle.saved_text.specs.Ranges.{IsRun, IsTask}
 use Rattle.saved_text.specs.Saved.{snapshot}
-use Rattle.legal_worlds.specs.Laws.{FirstIsLegal, LastIsLegal}
-use Rattle.legal_runs.specs.Laws.{EachFileIsGood, TextIsAccepted, WorldIsTold}
-use Rattle.accepted_runs.specs.Laws.{AcceptedIsLegal}
+use Rattle.laws_of_worlds.specs.Laws.{FirstIsLegal, LastIsLegal}
+use Rattle.laws_of_saving.specs.Laws.{EachFileIsGood, TextIsAccepted, WorldIsTold}
+use Rattle.laws_of_loading.specs.Laws.{AcceptedIsLegal}
 use Rattle.player.specs.Promise.{Outcome, PutFailed, Shelved, Wrote, Writes, counted, puts_of}
 use Rattle.player.specs.Stages.{PlayedSteadily, PlayedTo}
 use Rattle.run_save.specs.declared.status.Status.{Status}

@@ -8,20 +8,20 @@ use Rattle.sv_channels.specs.Shelf.{IsHeld, IsHeldAbove}
 use Rattle.sv_channels.specs.Sink.{Gained, GainedPart}
 use Rattle.script_words.specs.declared.stops.Stop.{Stop}
 use Rattle.script_words.specs.declared.stops.Stop.TheVariants as stop
-use Rattle.script_machine.specs.declared.lines.Line.{Line}
-use Rattle.script_machine.specs.declared.lines.LineRefusal.{LineRefusal}
-use Rattle.script_machine.specs.declared.lines.LineRefusal.TheVariants as line_refusal
-use Rattle.script_machine.specs.Outcome.{Outcome as MachineOutcome, Goes, Full, TooLong, Spent}
-use Rattle.script_machine.specs.Program.{Program}
-use Rattle.script_machine.specs.World.{World}
-use Rattle.script_machine.specs.Tasks.{Task}
-use Rattle.script_machine.specs.Output.{written, limit_line, BadLine}
-use Rattle.project_file.specs.declared.refusals.Refusal.{Refusal}
-use Rattle.saved_rules.specs.Basis.{Basis}
-use Rattle.saved_rules.specs.Refusals.{IsAccepted, IsRefused}
-use Rattle.saved_rules.specs.RunShapes.{Told as SavedRun}
-use Rattle.saved_rules.specs.declared.refusals.SaveRefusal.{SaveRefusal}
-use Rattle.legal_runs.specs.Worlds.{world_told}
+use Rattle.machine_spec.specs.declared.lines.Line.{Line}
+use Rattle.machine_spec.specs.declared.lines.LineRefusal.{LineRefusal}
+use Rattle.machine_spec.specs.declared.lines.LineRefusal.TheVariants as line_refusal
+use Rattle.machine_spec.specs.Outcome.{Outcome as MachineOutcome, Goes, Full, TooLong, Spent}
+use Rattle.machine_spec.specs.Program.{Program}
+use Rattle.machine_spec.specs.World.{World}
+use Rattle.machine_spec.specs.Tasks.{Task}
+use Rattle.machine_spec.specs.Output.{written, limit_line, BadLine}
+use Rattle.project_spec.specs.declared.refusals.Refusal.{Refusal}
+use Rattle.saved_spec.specs.Basis.{Basis}
+use Rattle.saved_spec.specs.Refusals.{IsAccepted, IsRefused}
+use Rattle.saved_spec.specs.RunShapes.{Told as SavedRun}
+use Rattle.saved_spec.specs.declared.refusals.SaveRefusal.{SaveRefusal}
+use Rattle.laws_of_saving.specs.Worlds.{world_told}
 use Rattle.run_save.specs.Statuses.{text_of_refusal, text_of_save_refusal}
 use Rattle.player.specs.Promise.{Loading, refused, accepted, counted, Ending, ran, is_whole, ending_at, limit_save_line}
 use Rattle.run_save.specs.declared.status.Limit.{Limit as LimitMet}

@@ -2,7 +2,7 @@
 
 ghost use Rattle.std.specs.Prelude.{◌≡◌, ◌^◌, ◌<◌, length, IfOk};
 ghost use Rattle.script_words.specs.Words.{answers};
-ghost use Rattle.saved_rules.specs.Basis.{basis_of};
+ghost use Rattle.saved_spec.specs.Basis.{basis_of};
 ghost use Rattle.sequencer.specs.Runs.{world_of, IsRunOf};
 ghost use Rattle.sv_channels.specs.Counts.{next_count, Rose, NoneFell, NoneRose};
 ghost use Rattle.project_check.specs.Loaded.{program_of};
@@ -11,10 +11,10 @@ ghost use Rattle.player.specs.Stages.{Fetched, FetchedSteadily, Loaded, RefusedA
 
 use crate::counts::Counts;
 use project_check::{Project, load};
-use project_file::Refusal;
+use project_spec::Refusal;
 use rand_pcg::Pcg32;
 use run_save::{Status, Which, load as load_run, refusal_name, save_refusal_name};
-use saved_rules::SaveRefusal;
+use saved_spec::SaveRefusal;
 use sequencer::Run;
 use std::alloc::Global;
 use sv_channels::{FetchError, Shelf};

@@ -2,8 +2,8 @@
 
 ghost use Rattle.player.specs.Laws.{CallsAgree};
 
-use resumed_runs::a_world_goes_on_as_its_script;
-use saved_rules::one_answer_at_most;
+use laws_of_resuming::a_world_goes_on_as_its_script;
+use saved_spec::one_answer_at_most;
 
 /// What `play` writes for the first part of a script, and then `resume` for the second, is what `play` writes for both parts
 /// as one script; the second ends as the whole does, and saves the same text (specs/Laws.antt). That the text of the first

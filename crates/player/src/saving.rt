@@ -3,8 +3,8 @@
 ghost use Rattle.std.specs.Prelude.{◌≡◌, ◌<◌, ◌≤◌, [], length, IfOk, Some};
 ghost use Rattle.std.specs.List.{All};
 ghost use Rattle.sv_channels.specs.Counts.{next_count, Rose, NoneRose};
-ghost use Rattle.script_machine.specs.Output.{Whole, ends, played};
-ghost use Rattle.script_machine.specs.ScriptText.{lines_of};
+ghost use Rattle.machine_spec.specs.Output.{Whole, ends, played};
+ghost use Rattle.machine_spec.specs.ScriptText.{lines_of};
 ghost use Rattle.project_check.specs.Loaded.{program_of};
 ghost use Rattle.saved_text.specs.Ranges.{IsRun, IsTask};
 ghost use Rattle.saved_text.specs.Saved.{snapshot};
@@ -16,11 +16,11 @@ ghost use Rattle.player.specs.Promise.{all_of, output_of, put_or_told, text_from
 ghost use Rattle.player.specs.Saving.{EndsAs, PutEnds, PutSteadily, RunLaws, SavesInRange, shelf_now, sink_now};
 
 use crate::lines::{play_lines, tell_limit};
-use accepted_runs::an_accepted_saved_run_tells_a_legal_world;
-use legal_runs::{
+use laws_of_loading::an_accepted_saved_run_tells_a_legal_world;
+use laws_of_saving::{
     every_accepted_file_is_playable, the_text_of_a_run_is_accepted, the_world_of_a_run_is_told,
 };
-use legal_worlds::{the_first_world_is_legal, the_last_world_is_legal};
+use laws_of_worlds::{the_first_world_is_legal, the_last_world_is_legal};
 use project_check::Project;
 use run_save::{Limit, SaveStop, Status, save};
 use script_words::{Rng, pcg};

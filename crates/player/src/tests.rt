@@ -1,8 +1,8 @@
 //! Worked rows of `play`. Each row goes through one function, so that a test is a table.
 
 use crate::top::play;
-use project_file::Refusal;
 use project_json::JsonRefusal;
+use project_spec::Refusal;
 use run_save::{Status, exit_number, status_text};
 use std::alloc::Global;
 use std::process::Abort;

@@ -11,7 +11,7 @@ use crate::counts::{Counts, accepted_line};
 use crate::fetching::{count, fetch, load_project, load_saved};
 use crate::saving::{Origin, has_its_bytes, play_first, play_on, runs_are_told_again};
 use run_save::{Status, Which};
-use saved_rules::one_answer_at_most;
+use saved_spec::one_answer_at_most;
 use sha2::{Digest, Sha256};
 use std::alloc::Global;
 use sv_channels::{Shelf, Sink, SinkError};

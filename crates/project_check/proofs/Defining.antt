@@ -6,16 +6,16 @@ use Rattle.std.proofs.lemmas.List.{length-map}
 use Rattle.std.proofs.lemmas.Option.{slice_get-map}
 use Rattle.std.proofs.lemmas.Slice.Eq.{bytes_eq-Decides}
 use Rattle.opcode_table.specs.declared.shape.Role.TheVariants as role
-use Rattle.script_machine.specs.Script.{first_block}
-use Rattle.script_machine.specs.Program.{Procedure, Scripts, scripts_at, definition_of, procedure}
-use Rattle.project_file.specs.declared.blocks.Prototype.{Prototype}
+use Rattle.machine_spec.specs.Script.{first_block}
+use Rattle.machine_spec.specs.Program.{Procedure, Scripts, scripts_at, definition_of, procedure}
+use Rattle.project_spec.specs.declared.blocks.Prototype.{Prototype}
 use Rattle.block_table.specs.declared.table.BlockTable.{BlockTable}
-use Rattle.project_file.specs.declared.blocks.Block.{Block}
-use Rattle.project_file.specs.declared.blocks.Input.{Input}
-use Rattle.project_file.specs.declared.blocks.Input.TheVariants as input
-use Rattle.project_file.specs.declared.blocks.Link.TheVariants.{To, Unknown}
-use Rattle.project_file.specs.Linked.{has_role, is_head, named, custom_block}
-use Rattle.project_file.specs.Trees.{Sheet, script_within, script, linked_prototype, procedure_by, procedure_at, first_of_each, procedures_of, scripts_of, sheet_of, sheets}
+use Rattle.project_spec.specs.declared.blocks.Block.{Block}
+use Rattle.project_spec.specs.declared.blocks.Input.{Input}
+use Rattle.project_spec.specs.declared.blocks.Input.TheVariants as input
+use Rattle.project_spec.specs.declared.blocks.Link.TheVariants.{To, Unknown}
+use Rattle.project_spec.specs.Linked.{has_role, is_head, named, custom_block}
+use Rattle.project_spec.specs.Trees.{Sheet, script_within, script, linked_prototype, procedure_by, procedure_at, first_of_each, procedures_of, scripts_of, sheet_of, sheets}
 use Rattle.project_check.specs.declared.project.Project.{Project}
 use Rattle.project_check.specs.Heads.{head_number, head_numbers}
 use Rattle.project_check.specs.declared.procedures.Callee.{Callee}

@@ -8,12 +8,12 @@ use Rattle.project_json.specs.Tree.{Tree}
 use Rattle.project_json.specs.Size.{size_of}
 use Rattle.scratch_values.specs.declared.names.VarName.{VarName}
 use Rattle.scratch_values.specs.declared.names.VarRef.{VarRef}
-use Rattle.script_machine.specs.declared.records.TargetRecord.{TargetRecord}
-use Rattle.script_machine.specs.Lists.{set_some, changed_at}
-use Rattle.script_machine.specs.Program.{Records, record_at, stage_number}
-use Rattle.project_file.specs.declared.blocks.Block.{Block}
-use Rattle.project_file.specs.Reading.{File, file_of}
-use Rattle.project_file.specs.Resolving.{Sort, OfVariable, OfList, Naming, found_in, names_of, with_added, or_added, resolved_name, resolved_names, names_in, resolved_blocks, resolved_targets}
+use Rattle.machine_spec.specs.declared.records.TargetRecord.{TargetRecord}
+use Rattle.machine_spec.specs.Lists.{set_some, changed_at}
+use Rattle.machine_spec.specs.Program.{Records, record_at, stage_number}
+use Rattle.project_spec.specs.declared.blocks.Block.{Block}
+use Rattle.project_spec.specs.Reading.{File, file_of}
+use Rattle.project_spec.specs.Resolving.{Sort, OfVariable, OfList, Naming, found_in, names_of, with_added, or_added, resolved_name, resolved_names, names_in, resolved_blocks, resolved_targets}
 use Rattle.project_check.specs.Kept.{IsDressed}
 use Rattle.project_check.proofs.Room.{few_costumes}
 

@@ -1,10 +1,10 @@
 -- What is measured of a file, part after part.
 use Rattle.std.proofs.Common.{◌≡◌, ℕ, ◌+◌, List, [], ◌∷◌, ◌++◌, map, Some, None, Err, refl, sym, ap, ◌∙◌, inl, inr, append_assoc}
-use Rattle.project_file.specs.declared.refusals.Refusal.{Refusal}
-use Rattle.project_file.specs.declared.refusals.Refusal.TheVariants as refusal
-use Rattle.project_file.specs.Limits.{Measure, table_measures, blocks_place, first_too_many, too_many}
-use Rattle.project_file.specs.Reading.{Table, File}
-use Rattle.project_file.specs.Refusals.{stage_count}
+use Rattle.project_spec.specs.declared.refusals.Refusal.{Refusal}
+use Rattle.project_spec.specs.declared.refusals.Refusal.TheVariants as refusal
+use Rattle.project_spec.specs.Limits.{Measure, table_measures, blocks_place, first_too_many, too_many}
+use Rattle.project_spec.specs.Reading.{Table, File}
+use Rattle.project_spec.specs.Refusals.{stage_count}
 use Rattle.target_records.specs.declared.refusal.RecordRefusal.{RecordRefusal}
 use Rattle.target_records.specs.declared.refusal.RecordRefusal.TheVariants as record_refusal
 use Rattle.target_records.specs.Bounds.{lengths_in}

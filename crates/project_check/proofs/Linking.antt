@@ -9,21 +9,21 @@ use Rattle.project_json.specs.Text.{IsText, max_depth}
 use Rattle.project_json.specs.Refusal.{IsCause}
 use Rattle.project_json.specs.declared.refusal.JsonRefusal.{JsonRefusal}
 use Rattle.project_json.specs.declared.refusal.JsonRefusal.TheVariants as json
-use Rattle.shapes.specs.declared.fault.Fault.{Fault}
-use Rattle.shapes.specs.declared.fault.Fault.TheVariants as fault
-use Rattle.shapes.specs.Reads.{Reads}
-use Rattle.script_machine.specs.Program.{record_at, no_target}
-use Rattle.project_file.specs.declared.blocks.Block.{Block}
-use Rattle.project_file.specs.declared.refusals.Refusal.{Refusal}
-use Rattle.project_file.specs.declared.refusals.Refusal.TheVariants as refusal
-use Rattle.project_file.specs.declared.blocks.Resolved.{Resolved}
-use Rattle.project_file.specs.Reading.{File, Origin, Table, blocks_in, file_of}
-use Rattle.project_file.specs.Refusals.{tests, Passes, IsFirstOf, IsRefusal, TellsChecked}
-use Rattle.project_file.specs.Resolving.{Found, resolved_targets}
-use Rattle.project_file.specs.Trees.{program}
-use Rattle.script_machine.specs.Program.{Records}
+use Rattle.json_shapes.specs.declared.fault.Fault.{Fault}
+use Rattle.json_shapes.specs.declared.fault.Fault.TheVariants as fault
+use Rattle.json_shapes.specs.Reads.{Reads}
+use Rattle.machine_spec.specs.Program.{record_at, no_target}
+use Rattle.project_spec.specs.declared.blocks.Block.{Block}
+use Rattle.project_spec.specs.declared.refusals.Refusal.{Refusal}
+use Rattle.project_spec.specs.declared.refusals.Refusal.TheVariants as refusal
+use Rattle.project_spec.specs.declared.blocks.Resolved.{Resolved}
+use Rattle.project_spec.specs.Reading.{File, Origin, Table, blocks_in, file_of}
+use Rattle.project_spec.specs.Refusals.{tests, Passes, IsFirstOf, IsRefusal, TellsChecked}
+use Rattle.project_spec.specs.Resolving.{Found, resolved_targets}
+use Rattle.project_spec.specs.Trees.{program}
+use Rattle.machine_spec.specs.Program.{Records}
 use Rattle.target_records.specs.Records.{records_in}
-use Rattle.linked_blocks.specs.Kept.{Kept, IsKept, IsRefusal as IsBlockRefusal}
+use Rattle.block_checks.specs.Kept.{Kept, IsKept, IsRefusal as IsBlockRefusal}
 use Rattle.name_resolving.specs.Room.{HasRoom}
 use Rattle.block_table.specs.declared.table.BlockTable.{BlockTable}
 use Rattle.block_table.specs.Table.{Numbered, numbered}

@@ -5,16 +5,16 @@ use Rattle.std.specs.Borrow.{Bor}
 use Rattle.std.specs.List.{All, AllZip, sum_by, slice_index_or}
 use Rattle.std.proofs.lemmas.List.{length-set}
 use Rattle.std.proofs.lemmas.Option.{slice_get-map}
-use Rattle.script_machine.specs.Lists.{set_some, changed_at}
-use Rattle.script_machine.specs.Program.{Records, record_at, stage_number}
+use Rattle.machine_spec.specs.Lists.{set_some, changed_at}
+use Rattle.machine_spec.specs.Program.{Records, record_at, stage_number}
 use Rattle.scratch_values.specs.declared.names.VarRef.{VarRef}
 use Rattle.block_table.specs.declared.table.BlockTable.{BlockTable}
-use Rattle.project_file.specs.declared.blocks.Block.{Block}
-use Rattle.project_file.specs.declared.blocks.Resolved.{Resolved}
-use Rattle.project_file.specs.Refusals.{tests, Passes, TellsChecked}
-use Rattle.project_file.specs.Resolving.{Naming, found_in, names_of, or_added, resolved_name, resolved_names, names_in, resolved_blocks, resolved_targets}
-use Rattle.linked_blocks.specs.Kept.{Kept, IsKept}
-use Rattle.linked_blocks.proofs.Lists.{zip_length, zip_at}
+use Rattle.project_spec.specs.declared.blocks.Block.{Block}
+use Rattle.project_spec.specs.declared.blocks.Resolved.{Resolved}
+use Rattle.project_spec.specs.Refusals.{tests, Passes, TellsChecked}
+use Rattle.project_spec.specs.Resolving.{Naming, found_in, names_of, or_added, resolved_name, resolved_names, names_in, resolved_blocks, resolved_targets}
+use Rattle.block_checks.specs.Kept.{Kept, IsKept}
+use Rattle.block_checks.proofs.Lists.{zip_length, zip_at}
 use Rattle.name_resolving.specs.Blocks.{flags_by, flag_of}
 use Rattle.project_check.specs.Loaded.{checked_by, Resolves}
 use Rattle.project_check.specs.Counts.{block_count}

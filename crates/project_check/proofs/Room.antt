@@ -8,17 +8,17 @@ use Rattle.std.proofs.lemmas.Slice.Eq.{bytes_eq-Decides}
 use Rattle.project_json.specs.Tree.{Tree, null, truth, number, text, list, object, Trees, no_trees, tree_and, Fields, no_fields, field_and, trees_of, fields_of, tree_list, field_list}
 use Rattle.project_json.specs.Parts.{value_named, member_of, is_null}
 use Rattle.project_json.specs.Size.{size_of, items_size, members_size}
-use Rattle.shapes.specs.Shapes as shape
-use Rattle.shapes.specs.Shapes.{Reader, ◌>>=◌}
-use Rattle.script_machine.specs.declared.records.TargetRecord.{TargetRecord}
+use Rattle.json_shapes.specs.Shapes as shape
+use Rattle.json_shapes.specs.Shapes.{Reader, ◌>>=◌}
+use Rattle.machine_spec.specs.declared.records.TargetRecord.{TargetRecord}
 use Rattle.scratch_values.specs.Casts.{zero_number}
-use Rattle.project_file.specs.Values.{num}
-use Rattle.project_file.specs.Targets.{variable_of, list_of, costume_of, not_empty, costumes_of, hundred, look_of, style_of, target_members, target_of, monitor_of}
-use Rattle.project_file.specs.declared.blocks.Block.{Block}
-use Rattle.script_machine.specs.declared.instance.Style.TheVariants.{AllAround}
+use Rattle.project_spec.specs.Values.{num}
+use Rattle.project_spec.specs.Targets.{variable_of, list_of, costume_of, not_empty, costumes_of, hundred, look_of, style_of, target_members, target_of, monitor_of}
+use Rattle.project_spec.specs.declared.blocks.Block.{Block}
+use Rattle.machine_spec.specs.declared.instance.Style.TheVariants.{AllAround}
 use Rattle.opcode_table.specs.declared.opcode.Opcode.TheVariants.{DataVariable, DataListContents}
-use Rattle.project_file.specs.Blocks.{Ids, reporter, tag, name_and_id, is_one_of, input_of, field_of, object_here, block_object, block_list, block_at, block_of, blocks_of}
-use Rattle.project_file.specs.Reading.{Table, File, blocks_in, table_in, file_by, file_of}
+use Rattle.project_spec.specs.Blocks.{Ids, reporter, tag, name_and_id, is_one_of, input_of, field_of, object_here, block_object, block_list, block_at, block_of, blocks_of}
+use Rattle.project_spec.specs.Reading.{Table, File, blocks_in, table_in, file_by, file_of}
 
 -- What was read
 

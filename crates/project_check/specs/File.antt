@@ -1,5 +1,5 @@
 -- What a document tells, as the code holds it before anything is tested.
-use Rattle.project_file.specs.Reading.{File}
+use Rattle.project_spec.specs.Reading.{File}
 use Rattle.target_records.specs.Records.{file_records_in}
 use Rattle.project_check.specs.declared.file.FileParts.{FileParts}
 

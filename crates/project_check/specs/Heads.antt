@@ -1,8 +1,8 @@
 -- The heads of a target, by number.
 use Rattle.std.specs.Prelude.{ℕ, List, Option, None, Some, if◌then◌else◌}
 use Rattle.std.specs.List.{enumerate_from, filter_map}
-use Rattle.project_file.specs.declared.blocks.Block.{Block}
-use Rattle.project_file.specs.Linked.{is_head}
+use Rattle.project_spec.specs.declared.blocks.Block.{Block}
+use Rattle.project_spec.specs.Linked.{is_head}
 
 -- the number of a block that is a head
 abbrev pub head_number : ℕ × Block → Option ℕ

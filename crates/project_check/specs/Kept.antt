@@ -1,13 +1,13 @@
 -- What every project keeps.
 use Rattle.std.specs.Prelude.{◌≡◌, ℕ, ◌<◌, ◌^◌, List, length, map, slice_get, Some}
 use Rattle.std.specs.List.{All}
-use Rattle.project_file.specs.declared.blocks.Block.{Block}
-use Rattle.project_file.specs.declared.blocks.Resolved.{Resolved}
-use Rattle.project_file.specs.Linked.{AreRanks}
-use Rattle.project_file.specs.Refusals.{tests, Passes}
-use Rattle.script_machine.specs.declared.records.TargetRecord.{TargetRecord}
-use Rattle.script_machine.specs.Program.{Records}
-use Rattle.linked_blocks.specs.Kept.{Kept}
+use Rattle.project_spec.specs.declared.blocks.Block.{Block}
+use Rattle.project_spec.specs.declared.blocks.Resolved.{Resolved}
+use Rattle.project_spec.specs.Linked.{AreRanks}
+use Rattle.project_spec.specs.Refusals.{tests, Passes}
+use Rattle.machine_spec.specs.declared.records.TargetRecord.{TargetRecord}
+use Rattle.machine_spec.specs.Program.{Records}
+use Rattle.block_checks.specs.Kept.{Kept}
 use Rattle.cached_blocks.specs.declared.block.CachedBlock.{CachedBlock}
 use Rattle.cached_blocks.specs.Cached.{sheet_with, cached_blocks}
 use Rattle.project_check.specs.Counts.{block_count}

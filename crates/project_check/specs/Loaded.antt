@@ -1,20 +1,20 @@
 -- What a project shows, and what loading answers.
 use Rattle.std.specs.Prelude.{◌≡◌, ℕ, ◌<◌, ◌^◌, Bool, false, List, length, map, slice_get, unwrap_or, [], Result, Ok, Err}
-use Rattle.script_machine.specs.Program.{Program, Records}
-use Rattle.project_file.specs.declared.blocks.Block.{Block}
-use Rattle.project_file.specs.declared.blocks.Resolved.{Resolved}
-use Rattle.project_file.specs.Resolving.{resolved_targets}
-use Rattle.project_file.specs.Trees.{Sheet, program}
-use Rattle.project_file.specs.Refusals.{IsRefusal}
-use Rattle.project_file.specs.declared.refusals.Refusal.{Refusal}
-use Rattle.project_file.specs.declared.refusals.Refusal.TheVariants as refusal
-use Rattle.project_file.specs.declared.refusals.Refusal.TheVariants.{NoMemory}
+use Rattle.machine_spec.specs.Program.{Program, Records}
+use Rattle.project_spec.specs.declared.blocks.Block.{Block}
+use Rattle.project_spec.specs.declared.blocks.Resolved.{Resolved}
+use Rattle.project_spec.specs.Resolving.{resolved_targets}
+use Rattle.project_spec.specs.Trees.{Sheet, program}
+use Rattle.project_spec.specs.Refusals.{IsRefusal}
+use Rattle.project_spec.specs.declared.refusals.Refusal.{Refusal}
+use Rattle.project_spec.specs.declared.refusals.Refusal.TheVariants as refusal
+use Rattle.project_spec.specs.declared.refusals.Refusal.TheVariants.{NoMemory}
 use Rattle.project_json.specs.declared.refusal.JsonRefusal.{JsonRefusal}
 use Rattle.project_json.specs.declared.refusal.JsonRefusal.TheVariants as json
-use Rattle.shapes.specs.declared.fault.Fault.{Fault}
-use Rattle.shapes.specs.declared.fault.Fault.TheVariants as fault
+use Rattle.json_shapes.specs.declared.fault.Fault.{Fault}
+use Rattle.json_shapes.specs.declared.fault.Fault.TheVariants as fault
 use Rattle.target_records.specs.Records.{records_in}
-use Rattle.linked_blocks.specs.Kept.{Kept}
+use Rattle.block_checks.specs.Kept.{Kept}
 use Rattle.project_check.specs.declared.project.Project.{Project}
 use Rattle.project_check.specs.Told.{IsTold}
 

@@ -3,12 +3,12 @@ use Rattle.std.specs.Prelude.{◌≡◌, ℕ, ◌<◌, ◌^◌, List, [], ◌∷
 use Rattle.std.specs.List.{enumerate_from}
 use Rattle.project_json.specs.Tree.{Tree}
 use Rattle.project_json.specs.Text.{IsText, max_depth}
-use Rattle.script_machine.specs.Program.{Records}
-use Rattle.project_file.specs.declared.refusals.Refusal.{Refusal}
-use Rattle.project_file.specs.declared.refusals.Refusal.TheVariants as refusal
-use Rattle.project_file.specs.Limits.{Measure, measure, most_targets, most_monitors, counts_from, table_measures, blocks_place, first_too_many, too_many}
-use Rattle.project_file.specs.Reading.{Table, File, file_of}
-use Rattle.project_file.specs.Refusals.{stage_count, IsFileRefusal}
+use Rattle.machine_spec.specs.Program.{Records}
+use Rattle.project_spec.specs.declared.refusals.Refusal.{Refusal}
+use Rattle.project_spec.specs.declared.refusals.Refusal.TheVariants as refusal
+use Rattle.project_spec.specs.Limits.{Measure, measure, most_targets, most_monitors, counts_from, table_measures, blocks_place, first_too_many, too_many}
+use Rattle.project_spec.specs.Reading.{Table, File, file_of}
+use Rattle.project_spec.specs.Refusals.{stage_count, IsFileRefusal}
 use Rattle.block_table.specs.Table.{Numbered, numbered}
 use Rattle.block_table.specs.declared.refusal.BlockRefusal.{BlockRefusal}
 use Rattle.block_table.specs.declared.refusal.BlockRefusal.TheVariants as block_refusal

@@ -1,11 +1,11 @@
 -- The definitions of procedures, by number, and what they say of them.
 use Rattle.std.specs.Prelude.{ℕ, Bool, false, List, [], Option, None, Some, bytes_eq, slice_get, if◌then◌else◌}
 use Rattle.opcode_table.specs.declared.shape.Role.TheVariants as role
-use Rattle.script_machine.specs.Program.{Procedure}
-use Rattle.project_file.specs.declared.blocks.Prototype.{Prototype}
-use Rattle.project_file.specs.declared.blocks.Block.{Block}
-use Rattle.project_file.specs.Linked.{has_role, named, custom_block}
-use Rattle.project_file.specs.Trees.{Sheet, linked_prototype, script}
+use Rattle.machine_spec.specs.Program.{Procedure}
+use Rattle.project_spec.specs.declared.blocks.Prototype.{Prototype}
+use Rattle.project_spec.specs.declared.blocks.Block.{Block}
+use Rattle.project_spec.specs.Linked.{has_role, named, custom_block}
+use Rattle.project_spec.specs.Trees.{Sheet, linked_prototype, script}
 use Rattle.project_check.specs.declared.procedures.Callee.{Callee}
 
 -- blocks alone

@@ -1,11 +1,11 @@
 -- What a project file that is accepted tells of a project.
 use Rattle.std.specs.Prelude.{◌≡◌, ℕ, ◌<◌, ◌^◌, Bool, List, length, map}
-use Rattle.script_machine.specs.Program.{Records}
-use Rattle.project_file.specs.declared.blocks.Resolved.{Resolved}
-use Rattle.project_file.specs.Reading.{File, blocks_in}
-use Rattle.project_file.specs.Refusals.{IsAccepted, IsProgram, TellsChecked}
-use Rattle.project_file.specs.Resolving.{resolved_targets}
-use Rattle.project_file.specs.Trees.{program}
+use Rattle.machine_spec.specs.Program.{Records}
+use Rattle.project_spec.specs.declared.blocks.Resolved.{Resolved}
+use Rattle.project_spec.specs.Reading.{File, blocks_in}
+use Rattle.project_spec.specs.Refusals.{IsAccepted, IsProgram, TellsChecked}
+use Rattle.project_spec.specs.Resolving.{resolved_targets}
+use Rattle.project_spec.specs.Trees.{program}
 use Rattle.block_table.specs.Table.{Numbered}
 
 -- the ids of the blocks of each target, each at the number of its block

@@ -4,14 +4,14 @@ ghost use Rattle.std.specs.Prelude.{◌≡◌, ◌<◌, ◌^◌, map};
 ghost use Rattle.project_json.specs.View.{tree};
 ghost use Rattle.project_json.specs.Tree.{trees_of};
 ghost use Rattle.project_json.specs.Size.{size_of, items_size};
-ghost use Rattle.shapes.specs.Reads.{Reads};
-ghost use Rattle.shapes.specs.Shapes as shape;
-ghost use Rattle.project_file.specs.Reading.{table_in, file_of};
+ghost use Rattle.json_shapes.specs.Reads.{Reads};
+ghost use Rattle.json_shapes.specs.Shapes as shape;
+ghost use Rattle.project_spec.specs.Reading.{table_in, file_of};
 ghost use Rattle.project_check.specs.File.{file_in};
 
 use block_table::{FileTable, read_table};
+use json_shapes::{Fault, Place, members, required_items, required_members};
 use project_json::Json;
-use shapes::{Fault, Place, members, required_items, required_members};
 use std::alloc::Global;
 use target_records::{FileRecords, read_monitors, read_targets};
 

@@ -2,14 +2,14 @@
 
 ghost use Rattle.std.specs.Prelude.{◌≡◌, ◌<◌, ◌^◌, ◌||◌, length, map, IfOk};
 ghost use Rattle.opcode_table.specs.declared.shape.Role.TheVariants as role;
-ghost use Rattle.project_file.specs.Linked.{has_role, is_head};
+ghost use Rattle.project_spec.specs.Linked.{has_role, is_head};
 ghost use Rattle.project_check.specs.Heads.{head_numbers};
 
 use block_table::BlockTable;
 use lists::ListOf;
+use machine_spec::BlockId;
 use opcode_table::{Role, spec};
-use project_file::{Block, Code};
-use script_machine::BlockId;
+use project_spec::{Block, Code};
 use std::alloc::{AllocError, Global};
 
 /// The numbers of heads, in block order.

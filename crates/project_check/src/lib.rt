@@ -15,4 +15,4 @@ pub use laws::every_project_is_of_an_accepted_file;
 pub use loading::load;
 pub use procedures::Callee;
 pub use project::Project;
-pub use project_file::{At, Refusal};
+pub use project_spec::{At, Refusal};

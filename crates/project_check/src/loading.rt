@@ -12,13 +12,13 @@ use crate::file::read_file;
 use crate::heads::all_heads;
 use crate::measuring::measure;
 use crate::project::Project;
+use block_checks::{BlockLinks, test_blocks};
 use block_table::BlockTable;
 use cached_blocks::{CachedBlocks, cache_blocks};
-use linked_blocks::{BlockLinks, test_blocks};
+use json_shapes::Fault;
 use name_resolving::{ResolvedNames, resolve};
-use project_file::Refusal;
 use project_json::{JsonRefusal, read};
-use shapes::Fault;
+use project_spec::Refusal;
 use std::alloc::{AllocError, Global};
 use target_records::Records;
 

@@ -2,16 +2,16 @@
 
 ghost use Rattle.std.specs.Prelude.{◌≡◌, map};
 ghost use Rattle.std.specs.List.{enumerate_from};
-ghost use Rattle.shapes.specs.Places.{path};
-ghost use Rattle.project_file.specs.Limits.{counts_from, table_measures, blocks_place};
+ghost use Rattle.json_shapes.specs.Places.{path};
+ghost use Rattle.project_spec.specs.Limits.{counts_from, table_measures, blocks_place};
 ghost use Rattle.block_table.specs.Table.{numbered};
 ghost use Rattle.project_check.specs.File.{file_in};
 ghost use Rattle.project_check.specs.Measured.{counts_in, texts_from, Measures, IsMeasured, IsTooManyAt, Bounds, of_records, of_blocks};
 
 use crate::file::FileParts;
 use block_table::{BlockRefusal, BlockTable, FileTable};
-use project_file::Refusal;
-use shapes::Place;
+use json_shapes::Place;
+use project_spec::Refusal;
 use std::alloc::Global;
 use target_records::{RecordRefusal, Records};
 

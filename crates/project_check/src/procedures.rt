@@ -3,15 +3,15 @@
 ghost use Rattle.std.specs.Prelude.{◌≡◌, Some, find};
 ghost use Rattle.std.specs.Option.{option_copied, option_map};
 ghost use Rattle.opcode_table.specs.declared.shape.Role.TheVariants as role;
-ghost use Rattle.project_file.specs.declared.blocks.Input.TheVariants as held;
-ghost use Rattle.project_file.specs.Linked.{has_role, named};
-ghost use Rattle.project_file.specs.Trees.{prototype_at, linked_prototype};
+ghost use Rattle.project_spec.specs.declared.blocks.Input.TheVariants as held;
+ghost use Rattle.project_spec.specs.Linked.{has_role, named};
+ghost use Rattle.project_spec.specs.Trees.{prototype_at, linked_prototype};
 ghost use Rattle.project_check.specs.Procedures.{bare, callee_at, callee_in, defined, defined_at, defines_at, has_code};
 
+use machine_spec::BlockId;
 use opcode_table::{Role, spec};
-use project_file::{Block, Code, Input, Link, Mutation, Prototype};
 use project_json::Text;
-use script_machine::BlockId;
+use project_spec::{Block, Code, Input, Link, Mutation, Prototype};
 
 // Whether the opcode is that of a definition.
 fn is_definition(code: &Code) -> bool

@@ -2,20 +2,20 @@
 
 ghost use Rattle.std.specs.Prelude.{◌≡◌, map};
 ghost use Rattle.target_records.specs.Records.{records_in};
-ghost use Rattle.project_file.specs.Resolving as told;
+ghost use Rattle.project_spec.specs.Resolving as told;
 ghost use Rattle.project_check.specs.Kept.{IsProjectOf};
 ghost use Rattle.project_check.specs.Told.{IsToldBySome};
 ghost use Rattle.project_check.specs.Parts.{is_part};
 
 use crate::heads::Heads;
 use crate::procedures::{Callee, called};
+use block_checks::BlockLinks;
 use block_table::BlockTable;
 use cached_blocks::{CachedBlock, CachedBlocks};
-use linked_blocks::BlockLinks;
+use machine_spec::{BlockId, TargetId};
 use name_resolving::ResolvedNames;
-use project_file::{Block, Resolved};
+use project_spec::{Block, Resolved};
 use scratch_values::VarRef;
-use script_machine::{BlockId, TargetId};
 use target_records::Records;
 
 /// A project. Each of its targets has costumes, its links lead to blocks and a rank falls along each, its blocks pass all
@@ -76,11 +76,11 @@ impl Project {
     ghost use Rattle.std.specs.Prelude.{◌≡◌, ◌<◌, [], true, false, length, slice_get, slice_index, option_map, unwrap_or, find, Some, IfSome};
     ghost use Rattle.std.specs.List.{All};
     ghost use Rattle.target_records.specs.Records.{records_in};
-    ghost use Rattle.project_file.specs.Linked.{IsClosed, AreRanks};
-    ghost use Rattle.project_file.specs.Resolving as told;
-    ghost use Rattle.project_file.specs.Trees.{script};
+    ghost use Rattle.project_spec.specs.Linked.{IsClosed, AreRanks};
+    ghost use Rattle.project_spec.specs.Resolving as told;
+    ghost use Rattle.project_spec.specs.Trees.{script};
     ghost use Rattle.cached_blocks.specs.Cached.{cached_blocks};
-    ghost use Rattle.script_machine.specs.Program.{definition_of, procedure};
+    ghost use Rattle.machine_spec.specs.Program.{definition_of, procedure};
     ghost use Rattle.project_check.specs.Counts.{block_count};
     ghost use Rattle.project_check.specs.Heads.{head_numbers};
     ghost use Rattle.project_check.specs.Kept.{IsDressed};

@@ -2,13 +2,13 @@
 use Rattle.std.proofs.Common.{◌≡◌, ℕ, List, [], ◌∷◌, drop, Some, refl, sym, ap, ◌∙◌}
 use Rattle.std.specs.Prelude.{slice_get}
 use Rattle.rand_core.specs.Stream.{Stream}
-use Rattle.script_machine.specs.declared.devices.Question.{Question}
-use Rattle.script_machine.specs.Line.{answered, with_answer}
-use Rattle.script_machine.specs.Outcome.{Goes, then_do}
-use Rattle.script_machine.specs.Stopping.{with_scene, first_taken}
-use Rattle.script_machine.specs.Stores.{Devices}
-use Rattle.script_machine.specs.Tasks.{resumed}
-use Rattle.scenes.specs.Scenes.{scene_in}
+use Rattle.machine_spec.specs.declared.devices.Question.{Question}
+use Rattle.machine_spec.specs.Line.{answered, with_answer}
+use Rattle.machine_spec.specs.Outcome.{Goes, then_do}
+use Rattle.machine_spec.specs.Stopping.{with_scene, first_taken}
+use Rattle.machine_spec.specs.Stores.{Devices}
+use Rattle.machine_spec.specs.Tasks.{resumed}
+use Rattle.speech_bubbles.specs.Scenes.{scene_in}
 use Rattle.project_check.specs.declared.project.Project.{Project}
 use Rattle.executions.specs.declared.state.State.{State}
 use Rattle.executions.specs.Seen.{seen}

@@ -1,11 +1,11 @@
 -- Timers that end one after another.
 use Rattle.std.proofs.Common.{◌≡◌, ℕ, zero, suc, ◌+◌, ◌-◌, ◌<◌, ◌≤◌, Bool, true, false, Err, refl, ap, ◌∙◌, arith}
 use Rattle.script_words.specs.declared.stops.Stop.{Stop}
-use Rattle.script_machine.specs.Frame.{timers_ended}
-use Rattle.script_machine.specs.Outcome.{Outcome, Goes, StopIs}
-use Rattle.script_machine.specs.Slice.{go_on}
-use Rattle.script_machine.specs.Tasks.{Task}
-use Rattle.script_machine.specs.World.{World}
+use Rattle.machine_spec.specs.Frame.{timers_ended}
+use Rattle.machine_spec.specs.Outcome.{Outcome, Goes, StopIs}
+use Rattle.machine_spec.specs.Slice.{go_on}
+use Rattle.machine_spec.specs.Tasks.{Task}
+use Rattle.machine_spec.specs.World.{World}
 use Rattle.executions.proofs.Stops.{stop-same}
 use Rattle.promises.specs.Timers.{next_end}
 

@@ -5,13 +5,13 @@ use Rattle.std.specs.List.{All}
 use Rattle.std.specs.Option.{option_map}
 use Rattle.std.proofs.lemmas.Option.{slice_get-map}
 use Rattle.rand_core.specs.Stream.{Stream}
-use Rattle.script_machine.specs.Lists.{set_some, changed_at_some, first_changed}
-use Rattle.script_machine.specs.Outcome.{most_levels}
-use Rattle.script_machine.specs.declared.threads.Which.TheVariants.{Slot}
-use Rattle.script_machine.specs.Places.{Places, put, on_place}
-use Rattle.script_machine.specs.Tasks.{Task, resumed_task, resumed}
-use Rattle.script_machine.specs.Threads.{is_done}
-use Rattle.script_machine.specs.declared.threads.Status.TheVariants.{Running}
+use Rattle.machine_spec.specs.Lists.{set_some, changed_at_some, first_changed}
+use Rattle.machine_spec.specs.Outcome.{most_levels}
+use Rattle.machine_spec.specs.declared.threads.Which.TheVariants.{Slot}
+use Rattle.machine_spec.specs.Places.{Places, put, on_place}
+use Rattle.machine_spec.specs.Tasks.{Task, resumed_task, resumed}
+use Rattle.machine_spec.specs.Threads.{is_done}
+use Rattle.machine_spec.specs.declared.threads.Status.TheVariants.{Running}
 use Rattle.project_check.specs.declared.project.Project.{Project}
 use Rattle.variables.proofs.Places.{position-map}
 use Rattle.thread_frames.specs.declared.level.Level.{Level}

@@ -1,8 +1,8 @@
 -- The thread of a slot that goes on; private functions alone cite it.
 use Rattle.std.specs.Prelude.{◌≡◌, ℕ, List, Some, slice_get}
-use Rattle.script_machine.specs.declared.threads.Which.TheVariants.{Slot}
-use Rattle.script_machine.specs.Places.{Places, put}
-use Rattle.script_machine.specs.declared.threads.Status.TheVariants.{Running}
+use Rattle.machine_spec.specs.declared.threads.Which.TheVariants.{Slot}
+use Rattle.machine_spec.specs.Places.{Places, put}
+use Rattle.machine_spec.specs.declared.threads.Status.TheVariants.{Running}
 use Rattle.thread_frames.specs.declared.level.Level.{Level}
 use Rattle.thread_frames.specs.Threads.{Thread}
 use Rattle.thread_moves.specs.Resuming.{IsResumed}

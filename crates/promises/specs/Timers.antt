@@ -1,13 +1,13 @@
 -- The due timer that ends next; private functions alone cite these.
 use Rattle.std.specs.Prelude.{if◌then◌else◌}
-use Rattle.script_machine.specs.declared.devices.BubbleTimer.{BubbleTimer}
-use Rattle.script_machine.specs.Outcome.{Outcome, Goes}
-use Rattle.script_machine.specs.Frame.{still_fits, next_due, end_due}
-use Rattle.script_machine.specs.Parts.{Scene}
-use Rattle.script_machine.specs.Stopping.{bubble_emptied}
-use Rattle.script_machine.specs.Stores.{live}
-use Rattle.script_machine.specs.Tasks.{Task}
-use Rattle.script_machine.specs.World.{World}
+use Rattle.machine_spec.specs.declared.devices.BubbleTimer.{BubbleTimer}
+use Rattle.machine_spec.specs.Outcome.{Outcome, Goes}
+use Rattle.machine_spec.specs.Frame.{still_fits, next_due, end_due}
+use Rattle.machine_spec.specs.Parts.{Scene}
+use Rattle.machine_spec.specs.Stopping.{bubble_emptied}
+use Rattle.machine_spec.specs.Stores.{live}
+use Rattle.machine_spec.specs.Tasks.{Task}
+use Rattle.machine_spec.specs.World.{World}
 
 -- the bubble is emptied where its usage is still the timer's
 abbrev pub emptied_or_not : BubbleTimer → Scene → Outcome Scene

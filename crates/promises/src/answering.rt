@@ -1,19 +1,19 @@
 //! Answers to questions.
 
 ghost use Rattle.std.specs.Prelude.{◌≡◌, IfOk};
-ghost use Rattle.script_machine.specs.Line as machine;
-ghost use Rattle.script_machine.specs.Outcome.{Goes, StopIs};
+ghost use Rattle.machine_spec.specs.Line as machine;
+ghost use Rattle.machine_spec.specs.Outcome.{Goes, StopIs};
 ghost use Rattle.executions.specs.Resting.{IsIdle};
 ghost use Rattle.executions.specs.Seen.{seen};
 ghost use Rattle.promises.specs.Questions.{question_ended};
 
 use crate::resuming::resume;
 use executions::State;
+use machine_spec::Question;
 use project_check::Project;
-use scenes::first_taken;
 use scratch_values::BoundText;
-use script_machine::Question;
 use script_words::{Rng, Stop};
+use speech_bubbles::first_taken;
 use std::alloc::Global;
 
 // What follows where a question was taken away: its bubble is emptied where it was shown as one, its thread goes on, and

@@ -1,16 +1,16 @@
 //! Threads that waited go on.
 
 ghost use Rattle.std.specs.Prelude.{◌≡◌, ◌<◌, length, false, All, OnOk};
-ghost use Rattle.script_machine.specs.Tasks as machine;
-ghost use Rattle.script_machine.specs.Threads.{is_done};
+ghost use Rattle.machine_spec.specs.Tasks as machine;
+ghost use Rattle.machine_spec.specs.Threads.{is_done};
 ghost use Rattle.executions.specs.Ready.{AllFit};
 ghost use Rattle.executions.specs.Resting.{IsIdle};
 ghost use Rattle.executions.specs.Seen.{seen};
 ghost use Rattle.promises.specs.Resuming.{IsResumedAt};
 
 use executions::State;
+use machine_spec::{Serial, Status, Which};
 use project_check::Project;
-use script_machine::{Serial, Status, Which};
 use script_words::Rng;
 use std::alloc::AllocError;
 use thread_frames::Threads;

@@ -1,13 +1,13 @@
 //! Bubbles whose time has passed.
 
 ghost use Rattle.std.specs.Prelude.{◌≡◌, length, OnOk, IfOk};
-ghost use Rattle.script_machine.specs.Frame as machine;
-ghost use Rattle.script_machine.specs.Outcome.{Outcome, Goes, StopIs};
-ghost use Rattle.script_machine.specs.Slice.{go_on};
-ghost use Rattle.script_machine.specs.Stores.{live};
-ghost use Rattle.script_machine.specs.Tasks.{Task};
-ghost use Rattle.script_machine.specs.World.{World};
-ghost use Rattle.scenes.specs.Scenes.{scene_in};
+ghost use Rattle.machine_spec.specs.Frame as machine;
+ghost use Rattle.machine_spec.specs.Outcome.{Outcome, Goes, StopIs};
+ghost use Rattle.machine_spec.specs.Slice.{go_on};
+ghost use Rattle.machine_spec.specs.Stores.{live};
+ghost use Rattle.machine_spec.specs.Tasks.{Task};
+ghost use Rattle.machine_spec.specs.World.{World};
+ghost use Rattle.speech_bubbles.specs.Scenes.{scene_in};
 ghost use Rattle.targets.specs.Live.{IsSameCast};
 ghost use Rattle.executions.specs.Resting.{IsIdle};
 ghost use Rattle.executions.specs.Seen.{seen};
@@ -16,10 +16,10 @@ ghost use Rattle.promises.specs.Timers.{emptied_or_not, next_end};
 use crate::resuming::resume;
 use devices::Devices;
 use executions::State;
+use machine_spec::BubbleTimer;
 use project_check::Project;
-use scenes::empty_bubble;
-use script_machine::BubbleTimer;
 use script_words::{Rng, Stop};
+use speech_bubbles::empty_bubble;
 use std::alloc::Global;
 use targets::Targets;
 

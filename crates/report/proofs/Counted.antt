@@ -5,11 +5,11 @@ use Rattle.std.specs.List.{AllZip, count_by, sum_by}
 use Rattle.std.specs.declared.alloc.Global.{Global}
 use Rattle.std.proofs.lemmas.List.{take_more, map_push}
 use Rattle.std.proofs.lemmas.List.Sums.{sum_by-cons, sum_by_more, sum_by_more_le_part, count_by-le-length}
-use Rattle.project_file.specs.Linked.{is_head}
-use Rattle.linked_blocks.proofs.Lists.{zip_push}
-use Rattle.project_file.specs.declared.blocks.Block.{Block}
+use Rattle.project_spec.specs.Linked.{is_head}
+use Rattle.block_checks.proofs.Lists.{zip_push}
+use Rattle.project_spec.specs.declared.blocks.Block.{Block}
 use Rattle.project_check.specs.Counts.{block_count}
-use Rattle.linked_blocks.specs.Kept.{AreChecked}
+use Rattle.block_checks.specs.Kept.{AreChecked}
 use Rattle.report.specs.Counts.{loose_count}
 
 -- no more blocks are loose than there are

@@ -7,13 +7,13 @@ use Rattle.project_json.specs.Parts.{member_of, members_in, items_in}
 use Rattle.project_json.specs.Size.{size_of, items_size}
 use Rattle.project_json.specs.View.{tree}
 use Rattle.project_json.specs.declared.json.Json.{Json}
-use Rattle.shapes.specs.Shapes.{◌>>=◌, found, members, items}
+use Rattle.json_shapes.specs.Shapes.{◌>>=◌, found, members, items}
 use Rattle.target_records.proofs.Sizes.{document-size, item-size}
-use Rattle.project_file.specs.declared.blocks.Block.{Block}
+use Rattle.project_spec.specs.declared.blocks.Block.{Block}
 use Rattle.project_check.proofs.Room.{few_members}
 use Rattle.block_table.specs.Table.{IsSmall}
-use Rattle.linked_blocks.specs.Kept.{AreChecked}
-use Rattle.linked_blocks.proofs.Lists.{zip_push, zip_length}
+use Rattle.block_checks.specs.Kept.{AreChecked}
+use Rattle.block_checks.proofs.Lists.{zip_push, zip_length}
 use Rattle.report.specs.Places.{items_at, targets_in}
 use Rattle.report.specs.Unknown.{unknown_names, all_unknown, AreUnknown, blocks_of, tables_in}
 use Rattle.report.specs.UnknownStages.{IsSmallTarget, IsSmallDocument, AddsUnknown}

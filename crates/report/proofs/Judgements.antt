@@ -6,9 +6,9 @@ use Rattle.project_json.specs.Text.{IsText, max_depth}
 use Rattle.project_json.specs.Tree.{Tree}
 use Rattle.project_json.specs.declared.refusal.JsonRefusal.{JsonRefusal}
 use Rattle.project_json.proofs.Results.{text_no_fault}
-use Rattle.project_file.specs.declared.refusals.Refusal.{Refusal}
-use Rattle.project_file.specs.declared.refusals.Refusal.TheVariants as refusal
-use Rattle.project_file.specs.Refusals.{IsRefusal}
+use Rattle.project_spec.specs.declared.refusals.Refusal.{Refusal}
+use Rattle.project_spec.specs.declared.refusals.Refusal.TheVariants as refusal
+use Rattle.project_spec.specs.Refusals.{IsRefusal}
 use Rattle.project_check.specs.Loaded.{Loads, IsLoaded as IsLoadedProject, tables_of}
 use Rattle.project_check.specs.declared.project.Project.{Project}
 use Rattle.report.specs.Advice.{rule_of}

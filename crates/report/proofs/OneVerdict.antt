@@ -8,11 +8,11 @@ use Rattle.sv_channels.specs.Files.{Files}
 use Rattle.project_json.specs.Tree.{Tree}
 use Rattle.project_json.proofs.Results.{json_one_tree, text_no_fault, same_fault}
 use Rattle.project_json.specs.Text.{max_depth}
-use Rattle.project_file.specs.declared.blocks.Block.{Block}
-use Rattle.project_file.specs.declared.refusals.Refusal.{Refusal}
-use Rattle.project_file.specs.Reading.{blocks_in}
-use Rattle.project_file.proofs.OneRefusal.{JsonLaws, one_refusal, accepted_is_not_refused, one_file}
-use Rattle.linked_blocks.specs.Kept.{AreChecked}
+use Rattle.project_spec.specs.declared.blocks.Block.{Block}
+use Rattle.project_spec.specs.declared.refusals.Refusal.{Refusal}
+use Rattle.project_spec.specs.Reading.{blocks_in}
+use Rattle.project_spec.proofs.OneRefusal.{JsonLaws, one_refusal, accepted_is_not_refused, one_file}
+use Rattle.block_checks.specs.Kept.{AreChecked}
 use Rattle.report.specs.Counts.{AreCounts, counts_of}
 use Rattle.std.proofs.lemmas.Option.{same_Some}
 use Rattle.report.specs.Promise.{project_limit, Ending, said, too_large, ending_of, OfFile, Promised, Found}

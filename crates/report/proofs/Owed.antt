@@ -15,7 +15,7 @@ use Rattle.call_outcomes.specs.Seen.{ShelfNow, SinkNow}
 use Rattle.call_outcomes.specs.Stages.{Fetches, Writes}
 use Rattle.call_outcomes.specs.Writes.{Wrote, IsSilent}
 use Rattle.call_outcomes.proofs.Writings.{front_none, writes_silent}
-use Rattle.project_file.specs.declared.refusals.Refusal.{Refusal}
+use Rattle.project_spec.specs.declared.refusals.Refusal.{Refusal}
 use Rattle.report.specs.Advice.{rule_of}
 use Rattle.report.specs.Promise.{course, project_limit, Ending, missing, too_large, said, Tells, IsFetched, HoldsNoWant, AnswerCause, Promised, IsFound, texts_of, WantWroteNothing, Owes}
 use Rattle.report.specs.Stages.{unfetched, IsJudged, ToldOf}

@@ -3,9 +3,9 @@ use Rattle.std.specs.Prelude.{ℕ, List, [], codes, Option, None, Some}
 use Rattle.opcode_table.specs.declared.opcode.Opcode.{Opcode}
 use Rattle.opcode_table.specs.Table.{of_name}
 use Rattle.project_json.specs.declared.refusal.JsonRefusal.TheVariants as json_refusal
-use Rattle.project_file.specs.declared.refusals.MutationRefusal.TheVariants as mutation_refusal
-use Rattle.project_file.specs.declared.refusals.Refusal.{Refusal}
-use Rattle.project_file.specs.declared.refusals.Refusal.TheVariants as refusal
+use Rattle.project_spec.specs.declared.refusals.MutationRefusal.TheVariants as mutation_refusal
+use Rattle.project_spec.specs.declared.refusals.Refusal.{Refusal}
+use Rattle.project_spec.specs.declared.refusals.Refusal.TheVariants as refusal
 
 -- the rule that is broken; want of memory breaks none
 abbrev pub rule_of : Refusal → Option (List ℕ)

@@ -1,10 +1,10 @@
 -- What an accepted project has.
 use Rattle.std.specs.Prelude.{◌≡◌, ℕ, Bool, List, length, not}
 use Rattle.std.specs.List.{AllZip, count_by, sum_by}
-use Rattle.project_file.specs.declared.blocks.Block.{Block}
-use Rattle.project_file.specs.Linked.{is_head}
+use Rattle.project_spec.specs.declared.blocks.Block.{Block}
+use Rattle.project_spec.specs.Linked.{is_head}
 use Rattle.project_check.specs.Counts.{block_count}
-use Rattle.linked_blocks.specs.Kept.{AreChecked}
+use Rattle.block_checks.specs.Kept.{AreChecked}
 use Rattle.report.specs.declared.counts.Counts.{Counts}
 
 -- as many scripts as heads: hats and definitions at the tops of stacks

@@ -2,10 +2,10 @@
 use Rattle.std.specs.Prelude.{◌≡◌, ℕ, List, Option, None, Some, IfSome, IsSome}
 use Rattle.sv_channels.specs.declared.errors.FetchError.{FetchError}
 use Rattle.sv_channels.specs.declared.errors.FetchError.TheVariants as fetch
-use Rattle.project_file.specs.declared.refusals.Refusal.{Refusal}
+use Rattle.project_spec.specs.declared.refusals.Refusal.{Refusal}
 use Rattle.report.specs.Advice.{rule_of}
 use Rattle.report.specs.Verdict.{Verdict, IsVerdict, IsCounted, verdict_text, refusal_in}
-use Rattle.project_file.specs.Refusals.{IsRefusal}
+use Rattle.project_spec.specs.Refusals.{IsRefusal}
 use Rattle.report.specs.declared.judging.Loaded.{Loaded}
 use Rattle.report.specs.declared.judging.Loaded.TheVariants.{Accepted, Refused}
 use Rattle.report.specs.declared.judging.Judged.{Judged}

@@ -3,10 +3,10 @@ use Rattle.std.specs.Prelude.{ℕ, List, [], ◌∷◌, ◌++◌, codes, unwrap_
 use Rattle.std.specs.Fmt.{decimal}
 use Rattle.project_json.specs.Tree.{Tree}
 use Rattle.project_json.specs.declared.refusal.JsonRefusal.TheVariants as json_refusal
-use Rattle.script_machine.specs.FrameText.{quoted}
-use Rattle.project_file.specs.declared.refusals.At.{At}
-use Rattle.project_file.specs.declared.refusals.Refusal.{Refusal}
-use Rattle.project_file.specs.declared.refusals.Refusal.TheVariants as refusal
+use Rattle.machine_spec.specs.FrameText.{quoted}
+use Rattle.project_spec.specs.declared.refusals.At.{At}
+use Rattle.project_spec.specs.declared.refusals.Refusal.{Refusal}
+use Rattle.project_spec.specs.declared.refusals.Refusal.TheVariants as refusal
 use Rattle.report.specs.declared.counts.Counts.{Counts}
 use Rattle.report.specs.Advice.{rule_of, why, change}
 use Rattle.report.specs.Lines.{line}

@@ -3,15 +3,15 @@ use Rattle.std.specs.Prelude.{◌≡◌, ℕ, Bool, true, false, not, List, [], 
 use Rattle.std.specs.Fmt.{decimal}
 use Rattle.std.specs.List.{AllZip, count_by}
 use Rattle.project_json.specs.Tree.{Tree}
-use Rattle.script_machine.specs.FrameText.{quoted}
-use Rattle.project_file.specs.declared.blocks.Block.{Block}
-use Rattle.project_file.specs.declared.blocks.Code.{Code}
-use Rattle.project_file.specs.declared.blocks.Code.TheVariants.{Known, Other}
-use Rattle.project_file.specs.Limits.{first_too_many, table_measures}
-use Rattle.project_file.specs.Linked.{is_menu}
-use Rattle.project_file.specs.Reading.{Table}
+use Rattle.machine_spec.specs.FrameText.{quoted}
+use Rattle.project_spec.specs.declared.blocks.Block.{Block}
+use Rattle.project_spec.specs.declared.blocks.Code.{Code}
+use Rattle.project_spec.specs.declared.blocks.Code.TheVariants.{Known, Other}
+use Rattle.project_spec.specs.Limits.{first_too_many, table_measures}
+use Rattle.project_spec.specs.Linked.{is_menu}
+use Rattle.project_spec.specs.Reading.{Table}
 use Rattle.block_table.specs.Table.{table_at}
-use Rattle.linked_blocks.specs.Kept.{AreChecked}
+use Rattle.block_checks.specs.Kept.{AreChecked}
 use Rattle.report.specs.Places.{targets_in, member_at}
 use Rattle.report.specs.Lines.{line}
 

@@ -3,8 +3,8 @@ use Rattle.std.specs.Prelude.{◌≡◌, ℕ, ◌<◌, ◌^◌, Bool, List, [], 
 use Rattle.project_json.specs.Size.{size_of}
 use Rattle.project_json.specs.Tree.{Tree}
 use Rattle.block_table.specs.Table.{IsSmall, Numbered}
-use Rattle.linked_blocks.specs.Kept.{AreChecked}
-use Rattle.project_file.specs.declared.blocks.Block.{Block}
+use Rattle.block_checks.specs.Kept.{AreChecked}
+use Rattle.project_spec.specs.declared.blocks.Block.{Block}
 use Rattle.report.specs.Places.{member_at}
 use Rattle.report.specs.Unknown.{unknown_names}
 

@@ -1,11 +1,11 @@
 -- What is said of a project file: what it has, or why it is refused. Which files are accepted, and the refusal of the
--- others, is that of project_file/specs, Refusals.
+-- others, is that of project_spec/specs, Refusals.
 use Rattle.std.specs.Prelude.{ℕ, List, ◌++◌, Option, None, Some}
 use Rattle.project_json.specs.Tree.{Tree}
 use Rattle.project_json.specs.Text.{IsText, max_depth}
-use Rattle.project_file.specs.declared.refusals.Refusal.{Refusal}
-use Rattle.project_file.specs.Reading.{File, blocks_in}
-use Rattle.project_file.specs.Refusals.{IsAccepted, IsRefusal}
+use Rattle.project_spec.specs.declared.refusals.Refusal.{Refusal}
+use Rattle.project_spec.specs.Reading.{File, blocks_in}
+use Rattle.project_spec.specs.Refusals.{IsAccepted, IsRefusal}
 use Rattle.report.specs.declared.counts.Counts.{Counts}
 use Rattle.report.specs.Counts.{AreCounts}
 use Rattle.report.specs.Text.{accepted_text, refusal_text}

@@ -5,8 +5,8 @@ ghost use Rattle.opcode_table.specs.Table.{of_name};
 ghost use Rattle.report.specs.Advice.{rule_of, why, why_misfit, change, change_misfit};
 
 use opcode_table::of_name;
-use project_file::{MutationRefusal, Refusal};
 use project_json::JsonRefusal;
+use project_spec::{MutationRefusal, Refusal};
 
 /// The rule that is broken, or `None` where memory ran out. docs/refusals.md has an example of each rule.
 pub(crate) fn rule_of(refusal: &Refusal) -> Option<&'static str>

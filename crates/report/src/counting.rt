@@ -2,16 +2,16 @@
 
 ghost use Rattle.std.specs.Prelude.{◌≡◌, ◌≤◌, ◌<◌, ◌^◌, length, map, not, IfOk};
 ghost use Rattle.std.specs.List.{AllZip, count_by, sum_by};
-ghost use Rattle.project_file.specs.Linked.{is_head};
+ghost use Rattle.project_spec.specs.Linked.{is_head};
 ghost use Rattle.project_check.specs.Loaded.{tables_of};
-ghost use Rattle.linked_blocks.specs.Kept.{AreChecked};
+ghost use Rattle.block_checks.specs.Kept.{AreChecked};
 ghost use Rattle.report.specs.Counts.{script_count, loose_count, AreCounts};
 
 use crate::counts::Counts;
 use crate::scripts::{in_scripts, is_head};
+use machine_spec::TargetId;
 use project_check::Project;
-use project_file::Block;
-use script_machine::TargetId;
+use project_spec::Block;
 use std::alloc::{AllocError, Global};
 
 // How many of the blocks are heads.

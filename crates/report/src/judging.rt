@@ -3,7 +3,7 @@
 ghost use Rattle.std.specs.Prelude.{◌≡◌, ◌<◌, ◌^◌, ◌++◌, length, Some, None, IfOk, IfSome, IsSome};
 ghost use Rattle.std.specs.Option.{option_map};
 ghost use Rattle.project_json.specs.View.{tree};
-ghost use Rattle.project_file.specs.Refusals.{IsRefusal};
+ghost use Rattle.project_spec.specs.Refusals.{IsRefusal};
 ghost use Rattle.report.specs.Advice.{rule_of};
 ghost use Rattle.report.specs.Stages.{IsJudged, IsLoaded};
 ghost use Rattle.report.specs.Text.{refusal_text};
@@ -17,8 +17,8 @@ use crate::counts::Counts;
 use crate::text::{accepted_text, push_refusal};
 use crate::unknown::{push_unknown, unknown_in};
 use project_check::load;
-use project_file::Refusal;
 use project_json::{Json, JsonRefusal, Text, Texts, read};
+use project_spec::Refusal;
 use std::alloc::{AllocError, Global};
 
 /// What is said of a file: the text, and the refusal of a project that is refused.

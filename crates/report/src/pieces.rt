@@ -2,7 +2,7 @@
 
 ghost use Rattle.std.specs.Prelude.{◌≡◌, ◌++◌, ◌∷◌, flat_map, OnOk};
 ghost use Rattle.std.specs.Fmt.{decimal};
-ghost use Rattle.script_machine.specs.FrameText.{escaped, quoted};
+ghost use Rattle.machine_spec.specs.FrameText.{escaped, quoted};
 
 use itoa::Buffer;
 use std::alloc::AllocError;

@@ -4,15 +4,15 @@ ghost use Rattle.std.specs.Prelude.{◌≡◌, ℕ, ◌++◌, ◌||◌, [], ◌�
 ghost use Rattle.std.specs.Option.{option_copied};
 ghost use Rattle.std.specs.List.{Contains};
 ghost use Rattle.opcode_table.specs.declared.shape.Role.TheVariants as role;
-ghost use Rattle.project_file.specs.Linked.{has_role, is_head};
-ghost use Rattle.linked_blocks.specs.Kept.{AreChecked};
-ghost use Rattle.linked_blocks.specs.Rows.{known, listed, link_in, numbers_in, row, rows, IsHeadAt};
+ghost use Rattle.project_spec.specs.Linked.{has_role, is_head};
+ghost use Rattle.block_checks.specs.Kept.{AreChecked};
+ghost use Rattle.block_checks.specs.Rows.{known, listed, link_in, numbers_in, row, rows, IsHeadAt};
 
 use block_table::BlockTable;
 use link_graph::{Graph, reach};
 use opcode_table::{Role, spec};
-use project_file::{Block, Code, Input, Link};
 use project_json::Text;
+use project_spec::{Block, Code, Input, Link};
 use std::alloc::{AllocError, Global};
 
 // The block that a link leads to.

@@ -5,7 +5,7 @@ ghost use Rattle.report.specs.Stages.{unfetched};
 ghost use Rattle.report.specs.Told.{text_of_status, exit_of_status};
 
 use crate::advice::rule_of;
-use project_file::Refusal;
+use project_spec::Refusal;
 use sv_channels::FetchError;
 
 /// How a call of `report` ends.

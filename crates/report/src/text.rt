@@ -4,7 +4,7 @@ ghost use Rattle.std.specs.Prelude.{◌≡◌, ◌++◌, [], codes, unwrap_or, O
 ghost use Rattle.std.specs.Option.{option_map};
 ghost use Rattle.std.specs.Fmt.{decimal};
 ghost use Rattle.project_json.specs.View.{tree};
-ghost use Rattle.script_machine.specs.FrameText.{quoted};
+ghost use Rattle.machine_spec.specs.FrameText.{quoted};
 ghost use Rattle.report.specs.Advice.{rule_of};
 ghost use Rattle.report.specs.Lines.{line};
 ghost use Rattle.report.specs.Text.{accepted_text, block_place, opcode_place, place, rule_line, place_line, advice_lines, refusal_text};
@@ -13,8 +13,8 @@ use crate::advice::{change, rule_of, why};
 use crate::counts::Counts;
 use crate::pieces::{push_natural, push_quoted, push_text};
 use crate::places::{block_at, id_of, kind_of, name_of, opcode_of, target_at};
-use project_file::{At, Refusal};
 use project_json::{Json, JsonRefusal};
+use project_spec::{At, Refusal};
 use std::alloc::{AllocError, Global};
 
 // Appends a line that tells a number.

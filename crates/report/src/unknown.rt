@@ -3,11 +3,11 @@
 ghost use Rattle.std.specs.Prelude.{◌≡◌, ◌≤◌, ◌++◌, ◌∷◌, [], if◌then◌else◌, length, flat_map, take, bytes_eq, IfOk, OnOk};
 ghost use Rattle.std.specs.Fmt.{decimal};
 ghost use Rattle.std.specs.Option.{option_map};
-ghost use Rattle.script_machine.specs.FrameText.{quoted};
+ghost use Rattle.machine_spec.specs.FrameText.{quoted};
 ghost use Rattle.std.specs.List.{count_by, list_any};
 ghost use Rattle.project_json.specs.View.{tree};
 ghost use Rattle.block_table.specs.Table.{IsSmall, table_at};
-ghost use Rattle.project_file.specs.Linked.{is_menu};
+ghost use Rattle.project_spec.specs.Linked.{is_menu};
 ghost use Rattle.report.specs.Lines.{line};
 ghost use Rattle.report.specs.Unknown.{place, readable, unknown_name, unknown_of, unknown_names, blocks_of, tables_in, AreUnknown, firsts, most_told, unknown_line, unknown_text};
 ghost use Rattle.report.specs.UnknownStages.{IsTable, AddsUnknown, IsSmallTarget, IsSmallDocument};
@@ -16,8 +16,8 @@ use crate::pieces::{push_natural, push_quoted, push_text};
 use crate::places::targets_in;
 use crate::scripts::in_scripts;
 use block_table::{BlockRefusal, BlockTable, build};
-use project_file::{Block, Code};
 use project_json::{Json, Text, Texts, member};
+use project_spec::{Block, Code};
 use std::alloc::{AllocError, Global};
 
 /// At most so many names are told.

@@ -1,10 +1,10 @@
 //! Inputs and fields that are there, and those that are not.
 
 use block_arguments::{Place, field, held_at, number, text, truth, value};
+use machine_spec::InstanceId;
 use project_json::{Text, read};
 use scratch_number::{Num, of_whole};
 use scratch_values::{Arg, Args, BoundText, Held, ResolvedField, Value, VarRef};
-use script_machine::InstanceId;
 use std::alloc::Global;
 use std::process::Abort;
 use target_records::Records;

@@ -1,12 +1,12 @@
 //! Each reporter on worked rows, in a project of a stage and two sprites.
 
 use devices::Devices;
+use machine_spec::InstanceId;
 use opcode_table::Opcode;
 use project_json::{Text as Name, read as read_json};
 use reporters::{Sight, reported};
 use scratch_number::{Num, of_millionths};
 use scratch_values::{Arg, Args, BoundText, Held, Params, ResolvedField, Value, VarRef};
-use script_machine::InstanceId;
 use script_words::{Counted, Rng, Stop, pcg};
 use std::process::Abort;
 use target_records::{Records, read};

@@ -1,7 +1,7 @@
 -- What reporters read, as the view of the reference machine.
 use Rattle.std.specs.Prelude.{[], unwrap_or, option_map}
 use Rattle.target_records.specs.Records.{records_in}
-use Rattle.script_machine.specs.View.{View}
+use Rattle.machine_spec.specs.View.{View}
 use Rattle.reporters.specs.declared.sight.Sight.{Sight}
 
 abbrev pub seen : Sight → View

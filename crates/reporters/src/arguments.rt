@@ -2,7 +2,7 @@
 
 ghost use Rattle.std.specs.Prelude.{◌≡◌, unwrap_or};
 ghost use Rattle.scratch_values.specs.Named.{item_named};
-ghost use Rattle.script_machine.specs.View.{variable_at};
+ghost use Rattle.machine_spec.specs.View.{variable_at};
 
 use scratch_values::{Args, Value, VarRef};
 

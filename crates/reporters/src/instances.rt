@@ -3,19 +3,19 @@
 ghost use Rattle.std.specs.Prelude.{◌≡◌, ◌+◌, [], slice_get, slice_index_or, unwrap_or, pos, IfOk, IfSome};
 ghost use Rattle.std.specs.Option.{option_map};
 ghost use Rattle.scratch_values.specs.declared.value.Value.TheVariants as values;
-ghost use Rattle.script_machine.specs.Numbers.{whole};
-ghost use Rattle.script_machine.specs.Program.{record_at};
-ghost use Rattle.script_machine.specs.Sensing as machine;
-ghost use Rattle.script_machine.specs.Stores.{live, no_instance};
+ghost use Rattle.machine_spec.specs.Numbers.{whole};
+ghost use Rattle.machine_spec.specs.Program.{record_at};
+ghost use Rattle.machine_spec.specs.Sensing as machine;
+ghost use Rattle.machine_spec.specs.Stores.{live, no_instance};
 ghost use Rattle.target_records.specs.Held.{IsSmall};
 ghost use Rattle.target_records.specs.Records.{records_in};
 ghost use Rattle.reporters.specs.Sight.{seen};
 
 use crate::sight::{Sight, stage};
+use machine_spec::{CostumeNames, Instance, TargetId, TargetRecord};
 use operators::empty_text;
 use scratch_number::{Num, of_whole};
 use scratch_values::Value;
-use script_machine::{CostumeNames, Instance, TargetId, TargetRecord};
 use std::alloc::{AllocError, Global};
 use target_records::Records;
 

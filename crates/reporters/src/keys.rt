@@ -1,10 +1,10 @@
 //! Keys by name.
 
 ghost use Rattle.std.specs.Prelude.{◌≡◌, chars};
-ghost use Rattle.script_machine.specs.Sensing as machine;
+ghost use Rattle.machine_spec.specs.Sensing as machine;
 
 use devices::Devices;
-use script_machine::Key;
+use machine_spec::Key;
 
 // The key of the first character of a text, an ASCII letter in upper case; the empty text is no key.
 fn key_of_chars(text: &str) -> Option<Key>

@@ -2,12 +2,12 @@
 
 ghost use Rattle.std.specs.Prelude.{◌≡◌, ◌≤◌, [], false, length, pos, slice_index_or, IfOk};
 ghost use Rattle.scratch_values.specs.declared.value.Value.TheVariants as values;
-ghost use Rattle.script_machine.specs.DataRows.{most_items};
-ghost use Rattle.script_machine.specs.Numbers.{whole};
-ghost use Rattle.script_machine.specs.Outcome.{Goes, StopIs, then_do};
-ghost use Rattle.script_machine.specs.Random.{indexed};
-ghost use Rattle.script_machine.specs.Reporters as machine;
-ghost use Rattle.script_machine.specs.Words.{made_of, seen_words};
+ghost use Rattle.machine_spec.specs.DataRows.{most_items};
+ghost use Rattle.machine_spec.specs.Numbers.{whole};
+ghost use Rattle.machine_spec.specs.Outcome.{Goes, StopIs, then_do};
+ghost use Rattle.machine_spec.specs.Random.{indexed};
+ghost use Rattle.machine_spec.specs.Reporters as machine;
+ghost use Rattle.machine_spec.specs.Words.{made_of, seen_words};
 
 use operators::{empty_text, place_of};
 use scratch_number::{Num, of_whole};

@@ -4,9 +4,9 @@ ghost use Rattle.std.specs.Prelude.{◌≡◌, ◌<◌, bytes_eq, position, slic
 ghost use Rattle.std.specs.Option.{option_map};
 ghost use Rattle.scratch_values.specs.Casts.{zero_number};
 ghost use Rattle.scratch_values.specs.declared.value.Value.TheVariants as values;
-ghost use Rattle.script_machine.specs.Sensing as machine;
-ghost use Rattle.script_machine.specs.Stores.{no_instance, store_at};
-ghost use Rattle.script_machine.specs.Program.{record_at};
+ghost use Rattle.machine_spec.specs.Sensing as machine;
+ghost use Rattle.machine_spec.specs.Stores.{no_instance, store_at};
+ghost use Rattle.machine_spec.specs.Program.{record_at};
 ghost use Rattle.target_records.specs.Records.{records_in};
 ghost use Rattle.scratch_number.specs.Arithmetic.{sub};
 ghost use Rattle.reporters.specs.Sight.{seen};
@@ -15,9 +15,9 @@ use crate::instances::{
     costume_name, costume_number, is_stage, own, record, sprite, stage_of, target_of, volume, x, y,
 };
 use crate::sight::Sight;
+use machine_spec::{Instance, InstanceId, TargetId, VariableRecord};
 use scratch_number::{Num, add, mul, of_whole, sqrt, sub};
 use scratch_values::Value;
-use script_machine::{Instance, InstanceId, TargetId, VariableRecord};
 use std::alloc::{AllocError, Global};
 use target_records::Records;
 use variables::Variables;

@@ -2,11 +2,11 @@
 
 ghost use Rattle.std.specs.Prelude.{◌≡◌, codes, IfOk};
 ghost use Rattle.scratch_values.specs.declared.value.Value.TheVariants as values;
-ghost use Rattle.script_machine.specs.Outcome.{Goes, StopIs, then_do};
-ghost use Rattle.script_machine.specs.Random.{pick_random};
-ghost use Rattle.script_machine.specs.Reporters as machine;
-ghost use Rattle.script_machine.specs.Words.{made_of, seen_words};
-ghost use Rattle.script_machine.specs.View.{value_at};
+ghost use Rattle.machine_spec.specs.Outcome.{Goes, StopIs, then_do};
+ghost use Rattle.machine_spec.specs.Random.{pick_random};
+ghost use Rattle.machine_spec.specs.Reporters as machine;
+ghost use Rattle.machine_spec.specs.Words.{made_of, seen_words};
+ghost use Rattle.machine_spec.specs.View.{value_at};
 ghost use Rattle.reporters.specs.Sight.{seen};
 
 use crate::instances::{direction, own, size, x, y};

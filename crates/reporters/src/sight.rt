@@ -1,16 +1,16 @@
 //! What reporters read.
 
 ghost use Rattle.std.specs.Prelude.{◌≡◌, ◌≤◌, length, IfOk};
-ghost use Rattle.script_machine.specs.DataRows.{most_items};
-ghost use Rattle.script_machine.specs.Outcome.{Goes, StopIs};
-ghost use Rattle.script_machine.specs.Program as program;
-ghost use Rattle.script_machine.specs.Stores.{items_of, value_of};
-ghost use Rattle.script_machine.specs.Texts.{contents_text, text_value};
+ghost use Rattle.machine_spec.specs.DataRows.{most_items};
+ghost use Rattle.machine_spec.specs.Outcome.{Goes, StopIs};
+ghost use Rattle.machine_spec.specs.Program as program;
+ghost use Rattle.machine_spec.specs.Stores.{items_of, value_of};
+ghost use Rattle.machine_spec.specs.Texts.{contents_text, text_value};
 ghost use Rattle.target_records.specs.Records.{records_in};
 
 use devices::Devices;
+use machine_spec::InstanceId;
 use scratch_values::{Params, Value, Values, VarRef};
-use script_machine::InstanceId;
 use script_words::Stop;
 use std::alloc::Global;
 use target_records::Records;

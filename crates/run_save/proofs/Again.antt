@@ -2,20 +2,20 @@
 use Rattle.std.proofs.Common.{◌≡◌, ℕ, false, List, Result, Ok, Err, refl, sym, ap, ◌∙◌, subst}
 use Rattle.rand_core.specs.Stream.{Stream}
 use Rattle.project_check.specs.declared.project.Project.{Project}
-use Rattle.script_machine.specs.Tasks.{Task}
-use Rattle.script_machine.specs.World.{World}
-use Rattle.saved_rules.specs.Basis.{Basis, basis_of}
-use Rattle.saved_rules.specs.Laws.{OneAnswer}
-use Rattle.saved_rules.specs.Legal.{told}
-use Rattle.saved_rules.specs.Refusals.{IsAccepted, IsRefused}
-use Rattle.saved_rules.specs.RunShapes.{Told}
-use Rattle.saved_rules.specs.declared.refusals.SaveRefusal.{SaveRefusal}
-use Rattle.saved_rules.specs.declared.refusals.SaveRefusal.TheVariants.{Json, Version, Shape, OtherProject, BadReference, BadThread, Spelling, NoMemory}
+use Rattle.machine_spec.specs.Tasks.{Task}
+use Rattle.machine_spec.specs.World.{World}
+use Rattle.saved_spec.specs.Basis.{Basis, basis_of}
+use Rattle.saved_spec.specs.Laws.{OneAnswer}
+use Rattle.saved_spec.specs.Legal.{told}
+use Rattle.saved_spec.specs.Refusals.{IsAccepted, IsRefused}
+use Rattle.saved_spec.specs.RunShapes.{Told}
+use Rattle.saved_spec.specs.declared.refusals.SaveRefusal.{SaveRefusal}
+use Rattle.saved_spec.specs.declared.refusals.SaveRefusal.TheVariants.{Json, Version, Shape, OtherProject, BadReference, BadThread, Spelling, NoMemory}
 use Rattle.saved_text.specs.Saved.{snapshot}
 use Rattle.sequencer.specs.declared.run.Run.{Run}
-use Rattle.legal_runs.specs.Good.{IsDigest}
-use Rattle.legal_runs.specs.Laws.{TextIsAccepted, WorldIsTold}
-use Rattle.legal_runs.specs.Worlds.{world_told}
+use Rattle.laws_of_saving.specs.Good.{IsDigest}
+use Rattle.laws_of_saving.specs.Laws.{TextIsAccepted, WorldIsTold}
+use Rattle.laws_of_saving.specs.Worlds.{world_told}
 use Rattle.run_save.specs.Loading.{IsThatRun, Loads, LoadsAgain}
 
 -- bytes that tell a run are refused for want of memory alone

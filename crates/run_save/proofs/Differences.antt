@@ -2,7 +2,7 @@
 use Rattle.std.proofs.Common.{◌≡◌, ℕ, suc, ◌+◌, ◌<◌, ◌≤◌, ◌==◌, Bool, true, false, cond, List, [], ◌∷◌, length, drop, get_or, ◌-◌, ◌⊎◌, inl, inr, length-drop, Option, None, Some, option_map, refl, ap, ◌∙◌, arith}
 use Rattle.std.proofs.lemmas.Bool.Decides.{nat_tests}
 use Rattle.std.proofs.lemmas.List.{drop_more}
-use Rattle.saved_rules.specs.Refusals.{first_difference}
+use Rattle.saved_spec.specs.Refusals.{first_difference}
 
 by_test : (a b : ℕ) (xs ys : List ℕ) (same : Bool) → (a == b) ≡ same → first_difference (a ∷ xs) (b ∷ ys) ≡ cond same (option_map suc (first_difference xs ys)) (Some 0)
 unfolding first_difference

@@ -4,15 +4,15 @@ use Rattle.std.specs.List.{All}
 use Rattle.std.specs.Option.{option_map_or}
 use Rattle.std.proofs.lemmas.List.Elements.{All-nil, All-cons}
 use Rattle.std.proofs.lemmas.List.Sums.{sum_by-cons}
-use Rattle.script_machine.specs.declared.instance.Instance.{Instance}
-use Rattle.script_machine.specs.declared.threads.Status.{Status}
-use Rattle.script_machine.specs.declared.threads.Status.TheVariants.{Running, YieldTick, PromiseWait, Done}
-use Rattle.script_machine.specs.Legal.{warp_on}
-use Rattle.script_machine.specs.Pending.{Item, Do, Held, Returned, Branch, Again, Back}
-use Rattle.script_machine.specs.Program.{Program}
-use Rattle.script_machine.specs.Script.{Script}
-use Rattle.script_machine.specs.Stores.{Devices, live}
-use Rattle.script_machine.specs.Threads.{is_done}
+use Rattle.machine_spec.specs.declared.instance.Instance.{Instance}
+use Rattle.machine_spec.specs.declared.threads.Status.{Status}
+use Rattle.machine_spec.specs.declared.threads.Status.TheVariants.{Running, YieldTick, PromiseWait, Done}
+use Rattle.machine_spec.specs.Legal.{warp_on}
+use Rattle.machine_spec.specs.Pending.{Item, Do, Held, Returned, Branch, Again, Back}
+use Rattle.machine_spec.specs.Program.{Program}
+use Rattle.machine_spec.specs.Script.{Script}
+use Rattle.machine_spec.specs.Stores.{Devices, live}
+use Rattle.machine_spec.specs.Threads.{is_done}
 use Rattle.project_check.specs.declared.project.Project.{Project}
 use Rattle.project_check.specs.Loaded.{sheet_at}
 use Rattle.executions.specs.Ready.{IsOfLive}
@@ -24,19 +24,19 @@ use Rattle.thread_frames.specs.Reading.{pending, task}
 use Rattle.thread_frames.specs.Rebuilding.{thread_of}
 use Rattle.thread_frames.specs.Threads.{Thread}
 use Rattle.saved_levels.specs.Read.{task_with}
-use Rattle.saved_rules.specs.Basis.{basis_of}
-use Rattle.saved_rules.specs.Kept.{SavedThread, thread_told}
-use Rattle.saved_rules.specs.Legal.{StandsIn, StandsFirst}
-use Rattle.saved_rules.specs.Levels.{bad_thread, thread_is_well}
-use Rattle.saved_rules.specs.Rules.{target_of}
-use Rattle.saved_rules.specs.RunShapes.{Told}
-use Rattle.saved_rules.specs.Threads.{items_fit, promises_fit, stands_well}
-use Rattle.saved_rules.specs.declared.refusals.SaveRefusal.{SaveRefusal}
-use Rattle.saved_rules.specs.declared.refusals.SaveRefusal.TheVariants.{Json, Version, Shape, OtherProject, BadReference, BadThread, Spelling, NoMemory}
+use Rattle.saved_spec.specs.Basis.{basis_of}
+use Rattle.saved_spec.specs.Kept.{SavedThread, thread_told}
+use Rattle.saved_spec.specs.Legal.{StandsIn, StandsFirst}
+use Rattle.saved_spec.specs.Levels.{bad_thread, thread_is_well}
+use Rattle.saved_spec.specs.Rules.{target_of}
+use Rattle.saved_spec.specs.RunShapes.{Told}
+use Rattle.saved_spec.specs.Threads.{items_fit, promises_fit, stands_well}
+use Rattle.saved_spec.specs.declared.refusals.SaveRefusal.{SaveRefusal}
+use Rattle.saved_spec.specs.declared.refusals.SaveRefusal.TheVariants.{Json, Version, Shape, OtherProject, BadReference, BadThread, Spelling, NoMemory}
 use Rattle.rand_core.specs.Stream.{Stream}
 use Rattle.run_save.specs.Loading.{Makes}
 use Rattle.run_save.specs.Parts.{AllParted, AreParts, IsPart, IsReady, Parted, first_bad}
-use Rattle.legal_runs.specs.Worlds.{items_told, task_told, warp_told}
+use Rattle.laws_of_saving.specs.Worlds.{items_told, task_told, warp_told}
 use Rattle.run_save.specs.Worlds.{AllTold}
 use Rattle.run_save.proofs.Worlds.{same_task}
 

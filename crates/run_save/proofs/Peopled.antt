@@ -5,15 +5,15 @@ use Rattle.std.specs.List.{list_any, list_all, range_with_len}
 use Rattle.std.proofs.lemmas.Bool.Decides.{nat_tests}
 use Rattle.std.proofs.lemmas.List.Sums.{sum_by-cons, AllPass-from_list_all}
 use Rattle.std.proofs.lemmas.List.FromFn.{length-range_with_len, get_or-range_with_len}
-use Rattle.script_machine.specs.declared.instance.Instance.{Instance}
-use Rattle.script_machine.specs.Stores.{live}
-use Rattle.script_machine.specs.declared.variables.Store.{Store}
+use Rattle.machine_spec.specs.declared.instance.Instance.{Instance}
+use Rattle.machine_spec.specs.Stores.{live}
+use Rattle.machine_spec.specs.declared.variables.Store.{Store}
 use Rattle.targets.specs.Live.{IsLive, target_of}
-use Rattle.saved_rules.specs.RunShapes.{store_among, stores_in_order}
-use Rattle.saved_rules.specs.Rules.{Rule, rule, differ, is_original}
+use Rattle.saved_spec.specs.RunShapes.{store_among, stores_in_order}
+use Rattle.saved_spec.specs.Rules.{Rule, rule, differ, is_original}
 use Rattle.targets.specs.Live.{IsLive, target_of}
-use Rattle.saved_rules.specs.RunShapes.{store_among, stores_in_order}
-use Rattle.saved_rules.specs.Rules.{Rule, rule, differ, is_original}
+use Rattle.saved_spec.specs.RunShapes.{store_among, stores_in_order}
+use Rattle.saved_spec.specs.Rules.{Rule, rule, differ, is_original}
 
 -- A rule of those of which none is broken holds
 

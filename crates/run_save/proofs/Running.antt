@@ -2,9 +2,9 @@
 use Rattle.std.proofs.Common.{◌≡◌, ◌<◌, ◌^◌, false, List, None, sym, ap, ◌∙◌, subst}
 use Rattle.std.specs.List.{All}
 use Rattle.rand_core.specs.Stream.{Stream}
-use Rattle.script_machine.specs.Places.{Everyone, shown_by}
-use Rattle.script_machine.specs.Threads.{is_done}
-use Rattle.script_machine.specs.Words.{seen_words}
+use Rattle.machine_spec.specs.Places.{Everyone, shown_by}
+use Rattle.machine_spec.specs.Threads.{is_done}
+use Rattle.machine_spec.specs.Words.{seen_words}
 use Rattle.project_check.specs.declared.project.Project.{Project}
 use Rattle.executions.specs.Ready.{ArePeopled, HasNoneFrom, IsOfLive}
 use Rattle.executions.specs.Resting.{IsIdle}
@@ -16,14 +16,14 @@ use Rattle.thread_frames.specs.Reading.{task}
 use Rattle.thread_frames.specs.Rebuilding.{threads_of}
 use Rattle.saved_parts.specs.Telling.{told_of}
 use Rattle.saved_parts.specs.declared.run.ToldRun.{ToldRun}
-use Rattle.saved_rules.specs.Basis.{basis_of}
-use Rattle.saved_rules.specs.Rules.{broken}
+use Rattle.saved_spec.specs.Basis.{basis_of}
+use Rattle.saved_spec.specs.Rules.{broken}
 use Rattle.sequencer.specs.Runs.{IsRunOf}
 use Rattle.sequencer.specs.declared.run.Run.{Run}
 use Rattle.run_save.specs.Loading.{IsRunTold}
 use Rattle.run_save.specs.Parts.{AreParts}
-use Rattle.legal_words.specs.Words.{words_after}
-use Rattle.legal_runs.specs.Worlds.{world_told}
+use Rattle.laws_of_words.specs.Words.{words_after}
+use Rattle.laws_of_saving.specs.Worlds.{world_told}
 use Rattle.run_save.proofs.Keeping.{all_ready, free, people, threads_below}
 use Rattle.run_save.proofs.Parts.{all_alive, all_fit, all_live, tasks_are}
 use Rattle.run_save.proofs.Worlds.{same_world}

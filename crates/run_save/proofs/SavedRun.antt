@@ -2,10 +2,10 @@
 use Rattle.std.proofs.Common.{◌≡◌, ℕ, List, false, sym, ap, ◌∙◌, subst}
 use Rattle.std.specs.List.{All}
 use Rattle.rand_core.specs.Stream.{Stream}
-use Rattle.script_machine.specs.Threads.{is_done}
-use Rattle.script_machine.specs.World.{World}
-use Rattle.script_machine.specs.Words.{seen_words}
-use Rattle.project_file.specs.Trees.{Sheet}
+use Rattle.machine_spec.specs.Threads.{is_done}
+use Rattle.machine_spec.specs.World.{World}
+use Rattle.machine_spec.specs.Words.{seen_words}
+use Rattle.project_spec.specs.Trees.{Sheet}
 use Rattle.project_check.specs.declared.project.Project.{Project}
 use Rattle.thread_frames.specs.Fit.{Fits}
 use Rattle.thread_frames.specs.Threads.{Thread}

@@ -4,18 +4,18 @@ use Rattle.std.specs.List.{list_all, cons_option}
 use Rattle.std.specs.Option.{option_map_or}
 use Rattle.std.proofs.lemmas.Slice.Eq.{bytes_eq-Decides}
 use Rattle.hex.specs.Hex.{encode_lower}
-use Rattle.script_machine.specs.declared.devices.Key.{Key}
-use Rattle.script_machine.specs.Line.{key_name}
-use Rattle.script_machine.specs.ScriptText.{key_of_rest}
+use Rattle.machine_spec.specs.declared.devices.Key.{Key}
+use Rattle.machine_spec.specs.Line.{key_name}
+use Rattle.machine_spec.specs.ScriptText.{key_of_rest}
 use Rattle.saved_parts.specs.Telling.{told_of}
 use Rattle.saved_parts.specs.declared.run.ToldRun.{ToldRun}
-use Rattle.saved_rules.specs.Basis.{Basis}
-use Rattle.saved_rules.specs.Kept.{SavedThread, thread_told}
-use Rattle.saved_rules.specs.Legal.{told}
-use Rattle.saved_rules.specs.Rules.{is_key_name}
-use Rattle.saved_rules.specs.RunShapes.{Told}
+use Rattle.saved_spec.specs.Basis.{Basis}
+use Rattle.saved_spec.specs.Kept.{SavedThread, thread_told}
+use Rattle.saved_spec.specs.Legal.{told}
+use Rattle.saved_spec.specs.Rules.{is_key_name}
+use Rattle.saved_spec.specs.RunShapes.{Told}
 use Rattle.saved_text.specs.Saved.{snapshot}
-use Rattle.legal_runs.specs.Worlds.{task_told, world_told}
+use Rattle.laws_of_saving.specs.Worlds.{task_told, world_told}
 use Rattle.run_save.specs.Worlds.{AllTold}
 
 -- keys by their names

@@ -1,7 +1,7 @@
 -- Worlds and tasks that agree in each part.
 use Rattle.std.proofs.Common.{◌≡◌}
-use Rattle.script_machine.specs.Tasks.{Task}
-use Rattle.script_machine.specs.World.{World}
+use Rattle.machine_spec.specs.Tasks.{Task}
+use Rattle.machine_spec.specs.World.{World}
 
 pub same_world : {T : Type 0} (v w : World T) → v.frame ≡ w.frame → v.words ≡ w.words → v.next_thread ≡ w.next_thread → v.next_instance ≡ w.next_instance → v.redraw ≡ w.redraw → v.targets ≡ w.targets
     → v.variables ≡ w.variables → v.devices ≡ w.devices → v.threads ≡ w.threads → v ≡ w

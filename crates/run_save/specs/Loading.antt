@@ -1,24 +1,24 @@
 -- What the loading of a saved run answers.
 use Rattle.std.specs.Prelude.{◌≡◌, ℕ, List, false, None, Some, Result, Ok, Err}
 use Rattle.rand_core.specs.Stream.{Stream}
-use Rattle.script_machine.specs.Tasks.{Task}
-use Rattle.script_machine.specs.World.{World}
+use Rattle.machine_spec.specs.Tasks.{Task}
+use Rattle.machine_spec.specs.World.{World}
 use Rattle.project_check.specs.Loaded.{program_of}
 use Rattle.project_check.specs.declared.project.Project.{Project}
 use Rattle.saved_text.specs.Ranges.{IsRun, IsTask}
 use Rattle.saved_text.specs.Saved.{snapshot, saved_text}
 use Rattle.saved_text.specs.Tasks.{task}
-use Rattle.saved_rules.specs.Basis.{basis_of}
-use Rattle.saved_rules.specs.Levels.{bad_thread}
-use Rattle.saved_rules.specs.Refusals.{IsAccepted, IsRefused}
-use Rattle.saved_rules.specs.RunShapes.{Told}
-use Rattle.saved_rules.specs.declared.refusals.SaveRefusal.{SaveRefusal}
-use Rattle.saved_rules.specs.declared.refusals.SaveRefusal.TheVariants.{BadThread, NoMemory}
+use Rattle.saved_spec.specs.Basis.{basis_of}
+use Rattle.saved_spec.specs.Levels.{bad_thread}
+use Rattle.saved_spec.specs.Refusals.{IsAccepted, IsRefused}
+use Rattle.saved_spec.specs.RunShapes.{Told}
+use Rattle.saved_spec.specs.declared.refusals.SaveRefusal.{SaveRefusal}
+use Rattle.saved_spec.specs.declared.refusals.SaveRefusal.TheVariants.{BadThread, NoMemory}
 use Rattle.sequencer.specs.Runs.{world_of, IsRunOf}
 use Rattle.sequencer.specs.declared.run.Run.{Run}
-use Rattle.legal_worlds.specs.Runs.{IsLegalRun}
-use Rattle.legal_runs.specs.Good.{IsGood}
-use Rattle.legal_runs.specs.Worlds.{world_told}
+use Rattle.laws_of_worlds.specs.Runs.{IsLegalRun}
+use Rattle.laws_of_saving.specs.Good.{IsGood}
+use Rattle.laws_of_saving.specs.Worlds.{world_told}
 use Rattle.run_save.specs.Worlds.{AllTold}
 
 -- a run of this project whose world is the one that is told

@@ -5,16 +5,16 @@ use Rattle.std.specs.declared.alloc.Global.{Global}
 use Rattle.project_check.specs.declared.project.Project.{Project}
 use Rattle.thread_frames.specs.declared.parts.ThreadPart.{ThreadPart}
 use Rattle.thread_frames.specs.Rebuilding.{thread_of}
-use Rattle.script_machine.specs.declared.instance.Instance.{Instance}
-use Rattle.script_machine.specs.Stores.{live}
+use Rattle.machine_spec.specs.declared.instance.Instance.{Instance}
+use Rattle.machine_spec.specs.Stores.{live}
 use Rattle.saved_levels.specs.Read.{IsMade}
-use Rattle.saved_rules.specs.Basis.{basis_of}
-use Rattle.saved_rules.specs.Kept.{SavedThread}
-use Rattle.saved_rules.specs.Levels.{thread_is_well}
-use Rattle.saved_rules.specs.Rules.{is_short, target_of, values_kept}
-use Rattle.saved_rules.specs.RunShapes.{Told}
-use Rattle.saved_rules.specs.declared.refusals.SaveRefusal.{SaveRefusal}
-use Rattle.saved_rules.specs.declared.refusals.SaveRefusal.TheVariants.{BadThread, NoMemory}
+use Rattle.saved_spec.specs.Basis.{basis_of}
+use Rattle.saved_spec.specs.Kept.{SavedThread}
+use Rattle.saved_spec.specs.Levels.{thread_is_well}
+use Rattle.saved_spec.specs.Rules.{is_short, target_of, values_kept}
+use Rattle.saved_spec.specs.RunShapes.{Told}
+use Rattle.saved_spec.specs.declared.refusals.SaveRefusal.{SaveRefusal}
+use Rattle.saved_spec.specs.declared.refusals.SaveRefusal.TheVariants.{BadThread, NoMemory}
 
 -- a thread of a live instance, the values of whose parameters are short
 pub record IsReady (x : SavedThread) (is : List Instance) : Type 0 where

@@ -2,13 +2,13 @@
 use Rattle.std.specs.Prelude.{◌≢◌, ℕ, List, ◌++◌, Option, None, Some, IsSome, codes, unwrap_or}
 use Rattle.std.specs.Fmt.{decimal}
 use Rattle.project_json.specs.declared.refusal.JsonRefusal.TheVariants as json_refusal
-use Rattle.project_file.specs.declared.refusals.MutationRefusal.TheVariants as mutation_refusal
-use Rattle.project_file.specs.declared.refusals.Refusal.{Refusal}
-use Rattle.project_file.specs.declared.refusals.Refusal.TheVariants as refusal
-use Rattle.script_machine.specs.declared.lines.LineRefusal.{LineRefusal}
-use Rattle.script_machine.specs.declared.lines.LineRefusal.TheVariants as line_refusal
-use Rattle.saved_rules.specs.declared.refusals.SaveRefusal.{SaveRefusal}
-use Rattle.saved_rules.specs.declared.refusals.SaveRefusal.TheVariants as save_refusal
+use Rattle.project_spec.specs.declared.refusals.MutationRefusal.TheVariants as mutation_refusal
+use Rattle.project_spec.specs.declared.refusals.Refusal.{Refusal}
+use Rattle.project_spec.specs.declared.refusals.Refusal.TheVariants as refusal
+use Rattle.machine_spec.specs.declared.lines.LineRefusal.{LineRefusal}
+use Rattle.machine_spec.specs.declared.lines.LineRefusal.TheVariants as line_refusal
+use Rattle.saved_spec.specs.declared.refusals.SaveRefusal.{SaveRefusal}
+use Rattle.saved_spec.specs.declared.refusals.SaveRefusal.TheVariants as save_refusal
 use Rattle.run_save.specs.declared.status.Status.{Status}
 use Rattle.run_save.specs.declared.status.Status.TheVariants.{Done, Usage, ReadFault, WriteFault, BadProject, BadSave, BadScript, Limit, TooLarge, NoMemory}
 

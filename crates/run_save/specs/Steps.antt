@@ -4,12 +4,12 @@ use Rattle.hex.specs.Hex.{encode_lower}
 use Rattle.serde_json.specs.Data.{Data}
 use Rattle.saved_parts.specs.Telling.{told_of}
 use Rattle.saved_parts.specs.declared.run.ToldRun.{ToldRun}
-use Rattle.saved_rules.specs.Basis.{Basis}
-use Rattle.saved_rules.specs.Refusals.{Reads, other_version, IsRefused}
-use Rattle.saved_rules.specs.RunShapes.{Told, run}
-use Rattle.saved_rules.specs.Rules.{broken}
-use Rattle.saved_rules.specs.declared.refusals.SaveRefusal.{SaveRefusal}
-use Rattle.saved_rules.specs.declared.refusals.SaveRefusal.TheVariants.{Json, Shape, OtherProject, BadReference, NoMemory}
+use Rattle.saved_spec.specs.Basis.{Basis}
+use Rattle.saved_spec.specs.Refusals.{Reads, other_version, IsRefused}
+use Rattle.saved_spec.specs.RunShapes.{Told, run}
+use Rattle.saved_spec.specs.Rules.{broken}
+use Rattle.saved_spec.specs.declared.refusals.SaveRefusal.{SaveRefusal}
+use Rattle.saved_spec.specs.declared.refusals.SaveRefusal.TheVariants.{Json, Shape, OtherProject, BadReference, NoMemory}
 
 -- the bytes are the JSON text of a value, or of none
 abbrev pub Parses : {A : Type 0} → (A → Data) → List ℕ → Result A SaveRefusal → Type 0

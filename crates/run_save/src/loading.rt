@@ -3,9 +3,9 @@
 ghost use Rattle.std.specs.Prelude.{◌≡◌, None, IfOk};
 ghost use Rattle.script_words.specs.Words.{answers};
 ghost use Rattle.saved_parts.specs.Telling.{told_of};
-ghost use Rattle.saved_rules.specs.Basis.{basis_of};
-ghost use Rattle.saved_rules.specs.Rules.{broken};
-ghost use Rattle.saved_rules.specs.Refusals.{first_difference};
+ghost use Rattle.saved_spec.specs.Basis.{basis_of};
+ghost use Rattle.saved_spec.specs.Rules.{broken};
+ghost use Rattle.saved_spec.specs.Refusals.{first_difference};
 ghost use Rattle.saved_text.specs.Saved.{saved_text, snapshot};
 ghost use Rattle.saved_text.specs.Tasks.{task};
 ghost use Rattle.sequencer.specs.Runs.{world_of, IsRunOf};
@@ -16,14 +16,14 @@ use crate::spelling::difference;
 use crate::telling::told_by;
 use crate::threads::parts_of;
 use executions::State;
-use legal_runs::{
+use laws_of_saving::{
     a_digest_has_its_bytes, the_text_of_a_run_is_accepted, the_world_of_a_run_is_told,
 };
 use project_check::Project;
 use rand_pcg::Pcg32;
 use saved_levels::Waiting;
 use saved_parts::ToldRun;
-use saved_rules::{SaveRefusal, a_saved_run_tells_its_world, one_answer_at_most};
+use saved_spec::{SaveRefusal, a_saved_run_tells_its_world, one_answer_at_most};
 use saved_stores::{RunStores, ToldDevices, ToldStores, stores_of};
 use saved_text::{a_saved_run_is_its_world, text_of};
 use script_words::pcg;

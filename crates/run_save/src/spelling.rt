@@ -1,7 +1,7 @@
 //! How a text is written.
 
 ghost use Rattle.std.specs.Prelude.{◌≡◌};
-ghost use Rattle.saved_rules.specs.Refusals.{first_difference};
+ghost use Rattle.saved_spec.specs.Refusals.{first_difference};
 
 // How many bytes stand before the first place at which two texts differ.
 pub(crate) fn difference(left: &[u8], right: &[u8]) -> Option<u64>

@@ -4,10 +4,10 @@ ghost use Rattle.std.specs.Prelude.{◌≡◌, IfOk, string_bytes, option_map};
 ghost use Rattle.run_save.specs.Statuses.{told_text, text_of_refusal, text_of_save_refusal, text_of_line, text_of_status, exit_of_line, exit_of_status};
 
 use itoa::Buffer;
-use project_file::{MutationRefusal, Refusal};
+use machine_spec::LineRefusal;
 use project_json::JsonRefusal;
-use saved_rules::SaveRefusal;
-use script_machine::LineRefusal;
+use project_spec::{MutationRefusal, Refusal};
+use saved_spec::SaveRefusal;
 use script_words::CounterKind;
 use std::alloc::{AllocError, Global};
 

@@ -4,18 +4,18 @@ ghost use Rattle.std.specs.Prelude.{◌≡◌};
 ghost use Rattle.hex.specs.Hex.{encode_lower};
 ghost use Rattle.serde_json.specs.View.{view};
 ghost use Rattle.saved_parts.specs.Telling.{told_of};
-ghost use Rattle.saved_rules.specs.Basis.{basis_of};
-ghost use Rattle.saved_rules.specs.Refusals as refusals;
+ghost use Rattle.saved_spec.specs.Basis.{basis_of};
+ghost use Rattle.saved_spec.specs.Refusals as refusals;
 ghost use Rattle.run_save.specs.Steps.{IsOf, Keeps, Parses, Shapes, Tells};
 
+use json_shapes::Fault;
 use project_check::Project;
 use project_json::Text;
 use saved_checks::broken_rule;
 use saved_parts::ToldRun;
 use saved_reading::read_run;
-use saved_rules::SaveRefusal;
+use saved_spec::SaveRefusal;
 use serde_json::Value;
-use shapes::Fault;
 use std::alloc::Global;
 
 // The version of the format.

@@ -4,14 +4,14 @@ ghost use Rattle.std.specs.Prelude.{◌≡◌, map};
 ghost use Rattle.std.specs.List.{All};
 ghost use Rattle.saved_levels.specs.Waits.{TellsOf};
 ghost use Rattle.saved_parts.specs.Telling.{thread_of};
-ghost use Rattle.saved_rules.specs.RunShapes.{Told};
+ghost use Rattle.saved_spec.specs.RunShapes.{Told};
 ghost use Rattle.run_save.specs.Parts.{AllParted, IsReady, Parted};
 
+use machine_spec::{BlockId, InstanceId, Serial};
 use project_check::Project;
 use saved_levels::{Waiting, levels_of};
 use saved_parts::{ToldThread, ToldThreads};
-use saved_rules::SaveRefusal;
-use script_machine::{BlockId, InstanceId, Serial};
+use saved_spec::SaveRefusal;
 use std::alloc::Global;
 use targets::Targets;
 use thread_frames::ThreadPart;

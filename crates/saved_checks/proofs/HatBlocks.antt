@@ -5,10 +5,10 @@ use Rattle.std.specs.List.{list_any, filter_map, enumerate_from, cons_option}
 use Rattle.std.specs.Option.{option_map_or}
 use Rattle.std.proofs.lemmas.Bool.{ne_eqb}
 use Rattle.opcode_table.specs.declared.shape.Role.TheVariants as role
-use Rattle.script_machine.specs.Program.{Head}
-use Rattle.project_file.specs.declared.blocks.Block.{Block}
-use Rattle.project_file.specs.Linked.{has_role, is_head}
-use Rattle.project_file.specs.Trees.{Sheet, head_of, hat_at, heads_of}
+use Rattle.machine_spec.specs.Program.{Head}
+use Rattle.project_spec.specs.declared.blocks.Block.{Block}
+use Rattle.project_spec.specs.Linked.{has_role, is_head}
+use Rattle.project_spec.specs.Trees.{Sheet, head_of, hat_at, heads_of}
 
 either-false : (x : Bool) → (x || false) ≡ x
 either-false true = refl

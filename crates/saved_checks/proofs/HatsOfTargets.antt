@@ -8,15 +8,15 @@ use Rattle.std.proofs.lemmas.List.{length-map}
 use Rattle.std.proofs.lemmas.Option.{slice_get_past}
 use Rattle.opcode_table.specs.Kinds.{hat_kind}
 use Rattle.opcode_table.specs.declared.shape.Role.TheVariants as role
-use Rattle.script_machine.specs.Frame.{is_edge_hat}
-use Rattle.script_machine.specs.Program.{Head, Scripts, hat_block, scripts_at}
-use Rattle.project_file.specs.declared.blocks.Block.{Block}
-use Rattle.project_file.specs.Linked.{has_role, is_head}
-use Rattle.project_file.specs.Trees.{op_by, head_of, scripts_of, sheet_of, sheets}
+use Rattle.machine_spec.specs.Frame.{is_edge_hat}
+use Rattle.machine_spec.specs.Program.{Head, Scripts, hat_block, scripts_at}
+use Rattle.project_spec.specs.declared.blocks.Block.{Block}
+use Rattle.project_spec.specs.Linked.{has_role, is_head}
+use Rattle.project_spec.specs.Trees.{op_by, head_of, scripts_of, sheet_of, sheets}
 use Rattle.project_check.specs.declared.project.Project.{Project}
 use Rattle.project_check.specs.Loaded.{tables_of, names_of, program_of, blocks_at, sheet_at}
 use Rattle.project_check.proofs.Defining.{scripts_here}
-use Rattle.saved_rules.specs.Basis.{basis_of, is_hat, is_edge, is_edge_head}
+use Rattle.saved_spec.specs.Basis.{basis_of, is_hat, is_edge, is_edge_head}
 use Rattle.saved_checks.proofs.HatBlocks.{hat-of-block}
 
 length-numbered : {A : Type 0} (n : ℕ) (xs : List A) → length (enumerate_from n xs) ≡ length xs

@@ -6,13 +6,13 @@ use Rattle.std.specs.Option.{option_map_or}
 use Rattle.std.proofs.lemmas.Bool.{eqb-true, ltb-true}
 use Rattle.std.proofs.lemmas.List.{reverse-append}
 use Rattle.std.proofs.lemmas.List.Folds.{list_all-map, list_all-append}
-use Rattle.script_machine.specs.declared.variables.Store.{Store}
-use Rattle.script_machine.specs.Program.{record_at}
-use Rattle.script_machine.specs.Stores.{store_at, is_on_stage}
-use Rattle.saved_rules.specs.RunShapes.{store_among, stores_in_order}
-use Rattle.saved_rules.specs.Basis.{Basis, records_of}
-use Rattle.saved_rules.specs.Rules as rules
-use Rattle.saved_rules.specs.Rules.{differ}
+use Rattle.machine_spec.specs.declared.variables.Store.{Store}
+use Rattle.machine_spec.specs.Program.{record_at}
+use Rattle.machine_spec.specs.Stores.{store_at, is_on_stage}
+use Rattle.saved_spec.specs.RunShapes.{store_among, stores_in_order}
+use Rattle.saved_spec.specs.Basis.{Basis, records_of}
+use Rattle.saved_spec.specs.Rules as rules
+use Rattle.saved_spec.specs.Rules.{differ}
 use Rattle.saved_checks.specs.Originals.{originals_of}
 use Rattle.saved_parts.specs.declared.run.ToldRun.{ToldRun}
 use Rattle.saved_parts.specs.declared.instances.ToldInstance.{ToldInstance}

@@ -6,13 +6,13 @@ use Rattle.std.specs.List.{list_all, list_any}
 use Rattle.std.proofs.lemmas.Bool.{and_parts, not-true, or_parts}
 use Rattle.std.proofs.lemmas.List.{length-map}
 use Rattle.std.proofs.lemmas.List.Folds.{list_all-map}
-use Rattle.script_machine.specs.declared.variables.Store.{Store}
-use Rattle.script_machine.specs.Program.{record_at}
-use Rattle.script_machine.specs.Stores.{store_at}
-use Rattle.saved_rules.specs.Basis.{Basis, records_of}
-use Rattle.saved_rules.specs.RunShapes.{stores_in_order}
-use Rattle.saved_rules.specs.Rules as rules
-use Rattle.saved_rules.specs.Rules.{differ}
+use Rattle.machine_spec.specs.declared.variables.Store.{Store}
+use Rattle.machine_spec.specs.Program.{record_at}
+use Rattle.machine_spec.specs.Stores.{store_at}
+use Rattle.saved_spec.specs.Basis.{Basis, records_of}
+use Rattle.saved_spec.specs.RunShapes.{stores_in_order}
+use Rattle.saved_spec.specs.Rules as rules
+use Rattle.saved_spec.specs.Rules.{differ}
 use Rattle.saved_parts.specs.declared.instances.ToldInstance.{ToldInstance}
 use Rattle.saved_parts.specs.declared.run.ToldRun.{ToldRun}
 use Rattle.saved_parts.specs.Telling.{instance_of, store_of, value_of, told_of}

@@ -4,11 +4,11 @@ use Rattle.std.specs.Prelude.{nat_le}
 use Rattle.std.specs.Fmt.{char_count}
 use Rattle.std.specs.List.{list_all}
 use Rattle.std.proofs.lemmas.List.Folds.{list_all-map}
-use Rattle.script_machine.specs.BubbleText.{most_characters}
-use Rattle.saved_rules.specs.Kept.{SavedLevel}
-use Rattle.saved_rules.specs.RunShapes.{stores_in_order}
-use Rattle.saved_rules.specs.Rules as rules
-use Rattle.saved_rules.specs.Rules.{is_short, has_short_texts, values_kept}
+use Rattle.machine_spec.specs.BubbleText.{most_characters}
+use Rattle.saved_spec.specs.Kept.{SavedLevel}
+use Rattle.saved_spec.specs.RunShapes.{stores_in_order}
+use Rattle.saved_spec.specs.Rules as rules
+use Rattle.saved_spec.specs.Rules.{is_short, has_short_texts, values_kept}
 use Rattle.saved_parts.specs.declared.instances.ToldInstance.{ToldInstance}
 use Rattle.saved_parts.specs.declared.run.ToldRun.{ToldRun}
 use Rattle.saved_parts.specs.declared.threads.ToldKept.{ToldKept}

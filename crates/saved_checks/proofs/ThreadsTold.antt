@@ -5,13 +5,13 @@ use Rattle.std.specs.List.{list_all, sum_by}
 use Rattle.std.specs.Option.{option_map_or}
 use Rattle.std.proofs.lemmas.List.{length-map, length-reverse}
 use Rattle.std.proofs.lemmas.List.Folds.{list_all-map, fold-map}
-use Rattle.script_machine.specs.declared.devices.BubbleTimer.{BubbleTimer}
-use Rattle.script_machine.specs.Outcome.{most_levels}
-use Rattle.script_machine.specs.Stores as stores
-use Rattle.script_machine.specs.Stores.{instance_at, no_instance}
-use Rattle.saved_rules.specs.Basis.{Basis, blocks_of, is_hat}
-use Rattle.saved_rules.specs.Rules as rules
-use Rattle.saved_rules.specs.Rules.{differ, is_in_target}
+use Rattle.machine_spec.specs.declared.devices.BubbleTimer.{BubbleTimer}
+use Rattle.machine_spec.specs.Outcome.{most_levels}
+use Rattle.machine_spec.specs.Stores as stores
+use Rattle.machine_spec.specs.Stores.{instance_at, no_instance}
+use Rattle.saved_spec.specs.Basis.{Basis, blocks_of, is_hat}
+use Rattle.saved_spec.specs.Rules as rules
+use Rattle.saved_spec.specs.Rules.{differ, is_in_target}
 use Rattle.saved_parts.specs.declared.instances.ToldInstance.{ToldInstance}
 use Rattle.saved_parts.specs.declared.run.ToldQuestion.{ToldQuestion}
 use Rattle.saved_parts.specs.declared.run.ToldRun.{ToldRun}

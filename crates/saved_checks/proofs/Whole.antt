@@ -7,10 +7,10 @@ use Rattle.std.proofs.lemmas.Bool.{and_parts}
 use Rattle.std.proofs.lemmas.List.Folds.{find-append}
 use Rattle.saved_parts.specs.declared.run.ToldRun.{ToldRun}
 use Rattle.saved_parts.specs.Telling.{instance_of, told_of}
-use Rattle.saved_rules.specs.Basis.{Basis}
-use Rattle.saved_rules.specs.RunShapes.{Told}
-use Rattle.saved_rules.specs.Rules as all
-use Rattle.saved_rules.specs.Rules.{Rule, rule, rules, broken, differ}
+use Rattle.saved_spec.specs.Basis.{Basis}
+use Rattle.saved_spec.specs.RunShapes.{Told}
+use Rattle.saved_spec.specs.Rules as all
+use Rattle.saved_spec.specs.Rules.{Rule, rule, rules, broken, differ}
 use Rattle.saved_checks.specs.Groups.{broken_in, of_devices, of_instances, of_standing, of_texts, of_threads}
 use Rattle.saved_checks.proofs.Joined.{map-map}
 

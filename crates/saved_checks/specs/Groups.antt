@@ -1,10 +1,10 @@
 -- The rules of saved runs in five groups, in their order.
 use Rattle.std.specs.Borrow.{Bor}
 use Rattle.std.specs.Prelude.{ℕ, Bool, not, List, [], ◌∷◌, find, codes, Option, option_map}
-use Rattle.saved_rules.specs.Basis.{Basis}
-use Rattle.saved_rules.specs.RunShapes.{Told}
-use Rattle.saved_rules.specs.Rules
-use Rattle.saved_rules.specs.Rules.{Rule, rule}
+use Rattle.saved_spec.specs.Basis.{Basis}
+use Rattle.saved_spec.specs.RunShapes.{Told}
+use Rattle.saved_spec.specs.Rules
+use Rattle.saved_spec.specs.Rules.{Rule, rule}
 
 -- the member of the first rule that is broken
 abbrev pub broken_in : List Rule → Option (List ℕ)

@@ -1,7 +1,7 @@
 -- What the levels of threads keep.
 use Rattle.std.specs.Prelude.{ℕ, nat_lt, Bool, true}
 use Rattle.std.specs.List.{list_all}
-use Rattle.saved_rules.specs.Rules.{is_short}
+use Rattle.saved_spec.specs.Rules.{is_short}
 use Rattle.saved_parts.specs.Telling.{value_of}
 use Rattle.saved_parts.specs.declared.threads.ToldKept.{ToldKept}
 use Rattle.saved_parts.specs.declared.threads.ToldKept.TheVariants.{Started, Call}

@@ -3,8 +3,8 @@
 ghost use Rattle.std.specs.Prelude.{◌≡◌, IfOk};
 ghost use Rattle.std.specs.Option.{option_copied};
 ghost use Rattle.saved_parts.specs.Telling.{told_of};
-ghost use Rattle.saved_rules.specs.Basis.{basis_of};
-ghost use Rattle.saved_rules.specs.Rules.{broken};
+ghost use Rattle.saved_spec.specs.Basis.{basis_of};
+ghost use Rattle.saved_spec.specs.Rules.{broken};
 
 use crate::groups::{of_devices, of_instances, of_standing, of_texts, of_threads};
 use project_check::Project;

@@ -2,11 +2,11 @@
 
 ghost use Rattle.std.specs.Prelude.{◌≡◌, ◌==◌, ◌&&◌, not, length, filter, nat_lt, nat_le, map};
 ghost use Rattle.std.specs.List.{list_all, sum_by};
-ghost use Rattle.script_machine.specs.Outcome.{most_levels};
-ghost use Rattle.saved_rules.specs.Rules as rules;
+ghost use Rattle.machine_spec.specs.Outcome.{most_levels};
+ghost use Rattle.saved_spec.specs.Rules as rules;
 
+use machine_spec::BubbleTimer;
 use saved_parts::{ToldInstance, ToldThread};
-use script_machine::BubbleTimer;
 
 const LAST_NEXT: u64 = 4_611_686_018_427_387_904;
 

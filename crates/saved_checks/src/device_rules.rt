@@ -2,8 +2,8 @@
 
 ghost use Rattle.std.specs.Prelude.{◌≡◌, ◌&&◌, length, nat_le, unsigned_abs, IfOk};
 ghost use Rattle.std.specs.List.{list_all};
-ghost use Rattle.saved_rules.specs.Basis.{basis_of, records_of};
-ghost use Rattle.saved_rules.specs.Rules as rules;
+ghost use Rattle.saved_spec.specs.Basis.{basis_of, records_of};
+ghost use Rattle.saved_spec.specs.Rules as rules;
 
 use crate::counting::is_next;
 use crate::distinct::texts_differ;

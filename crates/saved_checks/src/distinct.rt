@@ -1,7 +1,7 @@
 //! Whether numbers differ from one another, and texts.
 
 ghost use Rattle.std.specs.Prelude.{◌≡◌, IfOk};
-ghost use Rattle.saved_rules.specs.Rules as rules;
+ghost use Rattle.saved_spec.specs.Rules as rules;
 
 use project_json::Text;
 use std::alloc::{AllocError, Global};

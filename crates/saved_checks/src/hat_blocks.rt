@@ -3,12 +3,12 @@
 ghost use Rattle.std.specs.Prelude.{◌≡◌, ◌&&◌, false, slice_get};
 ghost use Rattle.opcode_table.specs.Kinds.{hat_kind};
 ghost use Rattle.opcode_table.specs.declared.shape.Role.TheVariants as role;
-ghost use Rattle.project_file.specs.Linked.{has_role, is_head};
-ghost use Rattle.project_file.specs.Trees.{op_by};
-ghost use Rattle.script_machine.specs.Frame.{is_edge_hat};
+ghost use Rattle.project_spec.specs.Linked.{has_role, is_head};
+ghost use Rattle.project_spec.specs.Trees.{op_by};
+ghost use Rattle.machine_spec.specs.Frame.{is_edge_hat};
 
 use opcode_table::{HatKind, Role, hat_kind, spec};
-use project_file::{Block, Code};
+use project_spec::{Block, Code};
 
 // Whether the opcode is that of a hat.
 fn is_hat_code(code: &Code) -> bool

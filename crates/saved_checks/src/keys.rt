@@ -3,10 +3,10 @@
 ghost use Rattle.std.specs.Prelude.{◌≡◌, bytes_eq, chars, is_some, false};
 ghost use Rattle.std.specs.Char.{encode_utf8};
 ghost use Rattle.std.specs.Option.{option_map_or};
-ghost use Rattle.script_machine.specs.Line.{key_name};
-ghost use Rattle.script_machine.specs.ScriptText.{one_key};
-ghost use Rattle.script_machine.specs.Sensing.{key_named};
-ghost use Rattle.saved_rules.specs.Rules as rules;
+ghost use Rattle.machine_spec.specs.Line.{key_name};
+ghost use Rattle.machine_spec.specs.ScriptText.{one_key};
+ghost use Rattle.machine_spec.specs.Sensing.{key_named};
+ghost use Rattle.saved_spec.specs.Rules as rules;
 
 // Whether a text is the name of a key in words.
 fn is_word(text: &str) -> bool

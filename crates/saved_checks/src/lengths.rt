@@ -3,9 +3,9 @@
 ghost use Rattle.std.specs.Prelude.{◌≡◌, ◌&&◌, ◌||◌, filter, length, nat_le};
 ghost use Rattle.std.specs.Fmt.{char_count, is_char_start};
 ghost use Rattle.std.specs.List.{list_all};
-ghost use Rattle.script_machine.specs.BubbleText.{most_characters};
+ghost use Rattle.machine_spec.specs.BubbleText.{most_characters};
 ghost use Rattle.saved_parts.specs.Telling.{value_of};
-ghost use Rattle.saved_rules.specs.Rules as rules;
+ghost use Rattle.saved_spec.specs.Rules as rules;
 
 use project_json::Text;
 use saved_parts::{ToldInstance, ToldQuestion, ToldValue, ToldValues};

@@ -4,7 +4,7 @@ ghost use Rattle.std.specs.Prelude.{◌≡◌, nat_lt, true};
 ghost use Rattle.std.specs.List.{list_all};
 ghost use Rattle.std.specs.Option.{option_map_or};
 ghost use Rattle.saved_parts.specs.Telling.{value_of};
-ghost use Rattle.saved_rules.specs.Rules as rules;
+ghost use Rattle.saved_spec.specs.Rules as rules;
 ghost use Rattle.saved_checks.specs.Levels.{has_short_values, names_given};
 
 use crate::lengths::is_short;

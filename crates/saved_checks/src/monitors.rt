@@ -3,8 +3,8 @@
 ghost use Rattle.std.specs.Prelude.{◌≡◌};
 ghost use Rattle.std.specs.List.{list_all};
 ghost use Rattle.saved_parts.specs.Telling.{made_of};
-ghost use Rattle.saved_rules.specs.Basis.{basis_of};
-ghost use Rattle.saved_rules.specs.Rules as rules;
+ghost use Rattle.saved_spec.specs.Basis.{basis_of};
+ghost use Rattle.saved_spec.specs.Rules as rules;
 
 use crate::project_parts::{lists, variables};
 use project_check::Project;

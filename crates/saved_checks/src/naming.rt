@@ -2,13 +2,13 @@
 
 ghost use Rattle.std.specs.Prelude.{◌≡◌, ◌&&◌, is_some, map, nat_lt, IfOk};
 ghost use Rattle.std.specs.List.{list_all};
-ghost use Rattle.saved_rules.specs.Rules as rules;
+ghost use Rattle.saved_spec.specs.Rules as rules;
 ghost use Rattle.saved_checks.specs.Live.{target_in};
 
 use crate::distinct::numbers_differ;
 use crate::live_targets::LiveTargets;
+use machine_spec::BubbleTimer;
 use saved_parts::{ToldInstance, ToldQuestion, ToldThread};
-use script_machine::BubbleTimer;
 use std::alloc::{AllocError, Global};
 
 // Whether an instance is live and a thread was there before the next.

@@ -2,16 +2,16 @@
 
 ghost use Rattle.std.specs.Prelude.{◌≡◌, length, slice_get};
 ghost use Rattle.std.specs.Option.{option_copied};
-ghost use Rattle.script_machine.specs.Program.{record_at};
+ghost use Rattle.machine_spec.specs.Program.{record_at};
 ghost use Rattle.project_check.specs.Loaded.{blocks_at};
-ghost use Rattle.saved_rules.specs.Basis as basis;
-ghost use Rattle.saved_rules.specs.Basis.{basis_of, blocks_of, records_of};
-ghost use Rattle.saved_rules.specs.Rules.{is_sprite};
+ghost use Rattle.saved_spec.specs.Basis as basis;
+ghost use Rattle.saved_spec.specs.Basis.{basis_of, blocks_of, records_of};
+ghost use Rattle.saved_spec.specs.Rules.{is_sprite};
 
 use crate::hat_blocks::{heads_edge_script, heads_script};
+use machine_spec::{TargetId, TargetRecord};
 use project_check::Project;
-use project_file::Block;
-use script_machine::{TargetId, TargetRecord};
+use project_spec::Block;
 
 // How many targets there are.
 pub(crate) fn targets(project: &Project) -> u32

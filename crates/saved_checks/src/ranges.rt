@@ -3,13 +3,13 @@
 ghost use Rattle.std.specs.Prelude.{◌≡◌, ◌&&◌, false, pos, negsuc, slice_get};
 ghost use Rattle.std.specs.List.{list_all};
 ghost use Rattle.std.specs.Option.{option_map_or};
-ghost use Rattle.script_machine.specs.Effects.{effect_place};
-ghost use Rattle.script_machine.specs.declared.effects.Effect.TheVariants.{Brightness, Ghost};
-ghost use Rattle.saved_rules.specs.Rules as rules;
+ghost use Rattle.machine_spec.specs.Effects.{effect_place};
+ghost use Rattle.machine_spec.specs.declared.effects.Effect.TheVariants.{Brightness, Ghost};
+ghost use Rattle.saved_spec.specs.Rules as rules;
 
+use machine_spec::{BubbleTimer, Effect};
 use saved_parts::ToldInstance;
 use scratch_number::Num;
-use script_machine::{BubbleTimer, Effect};
 
 const UNIT: i64 = 1_000_000;
 

@@ -3,10 +3,10 @@
 ghost use Rattle.std.specs.Prelude.{◌≡◌, ◌==◌, ◌&&◌, ◌||◌, false, not, length, map, nat_le, nat_lt, slice_get, IfOk};
 ghost use Rattle.std.specs.List.{list_all};
 ghost use Rattle.std.specs.Option.{option_map_or};
-ghost use Rattle.script_machine.specs.Program.{record_at};
-ghost use Rattle.saved_rules.specs.Basis as basis;
-ghost use Rattle.saved_rules.specs.Basis.{basis_of, records_of};
-ghost use Rattle.saved_rules.specs.Rules as rules;
+ghost use Rattle.machine_spec.specs.Program.{record_at};
+ghost use Rattle.saved_spec.specs.Basis as basis;
+ghost use Rattle.saved_spec.specs.Basis.{basis_of, records_of};
+ghost use Rattle.saved_spec.specs.Rules as rules;
 ghost use Rattle.saved_parts.specs.Telling.{instance_of};
 
 use crate::counting::is_original;

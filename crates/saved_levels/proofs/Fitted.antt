@@ -2,10 +2,10 @@
 use Rattle.std.proofs.Common.{◌≡◌, ℕ, true, false, List, [], ◌∷◌, Option, Some, None, refl, is_some}
 use Rattle.opcode_table.specs.declared.kinds.Kind.{Kind}
 use Rattle.opcode_table.specs.declared.kinds.Kind.TheVariants.{Choice, Endless, Counted, Calls, Waits, Glides, Starts, Asks, Speaks, Plain}
-use Rattle.script_machine.specs.Called.{called_by}
-use Rattle.script_machine.specs.Keeping.{is_called, is_calls, under_fits, top_fits}
-use Rattle.script_machine.specs.Program.{Program, Procedure, procedure}
-use Rattle.saved_rules.specs.Kept.{Kept, Nothing, Loop, Repeat, Wait, Glide, Started, Asked, Spoken, Call}
+use Rattle.machine_spec.specs.Called.{called_by}
+use Rattle.machine_spec.specs.Keeping.{is_called, is_calls, under_fits, top_fits}
+use Rattle.machine_spec.specs.Program.{Program, Procedure, procedure}
+use Rattle.saved_spec.specs.Kept.{Kept, Nothing, Loop, Repeat, Wait, Glide, Started, Asked, Spoken, Call}
 use Rattle.saved_levels.specs.Making.{loop_in, context_in, params_in, keeps_under, keeps_first}
 
 -- only calls call

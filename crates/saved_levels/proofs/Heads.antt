@@ -5,15 +5,15 @@ use Rattle.std.specs.List.{enumerate_from, cons_option}
 use Rattle.std.proofs.lemmas.Bool.Decides.{Decides-eqb}
 use Rattle.std.proofs.lemmas.Option.{slice_get-map}
 use Rattle.opcode_table.specs.declared.shape.Role.TheVariants as role
-use Rattle.script_machine.specs.Program.{Head, Scripts, hat_block}
-use Rattle.script_machine.specs.Script.{Script}
-use Rattle.project_file.specs.declared.blocks.Block.{Block}
-use Rattle.project_file.specs.Linked.{has_role, is_head}
-use Rattle.project_file.specs.Trees.{Sheet, head_of, hat_at, heads_of, scripts_of, sheet_of, sheets, script, target_of_link}
+use Rattle.machine_spec.specs.Program.{Head, Scripts, hat_block}
+use Rattle.machine_spec.specs.Script.{Script}
+use Rattle.project_spec.specs.declared.blocks.Block.{Block}
+use Rattle.project_spec.specs.Linked.{has_role, is_head}
+use Rattle.project_spec.specs.Trees.{Sheet, head_of, hat_at, heads_of, scripts_of, sheet_of, sheets, script, target_of_link}
 use Rattle.project_check.specs.declared.project.Project.{Project}
 use Rattle.project_check.specs.Loaded.{tables_of, names_of, sheet_at, program_of, blocks_at}
 use Rattle.project_check.proofs.Defining.{scripts_here}
-use Rattle.saved_rules.specs.Basis.{basis_of, script_under}
+use Rattle.saved_spec.specs.Basis.{basis_of, script_under}
 
 module _ (sheet : Sheet) (k : ℕ) where
   abbrev found : List Head → Option Head

@@ -2,12 +2,12 @@
 use Rattle.std.proofs.Common.{◌≡◌, ℕ, zero, suc, ◌<◌, ◌==◌, false, List, length, Option, Some, None, refl, sym, ap, ◌∙◌, arith}
 use Rattle.std.specs.Prelude.{slice_get, slice_index, if◌then◌else◌}
 use Rattle.std.proofs.lemmas.Bool.Decides.{Decides-eqb}
-use Rattle.script_machine.specs.Script.{Script, End, Then, Statement}
-use Rattle.project_file.specs.declared.blocks.Block.{Block}
-use Rattle.project_file.specs.Linked.{Behind, input_links, AreRanks}
-use Rattle.project_file.specs.Trees.{Sheet, script, script_within, statement, target_of_link}
-use Rattle.project_file.proofs.Unrolling.{script-none, script-at, falls, next_leads}
-use Rattle.saved_rules.specs.Levels.{script_from}
+use Rattle.machine_spec.specs.Script.{Script, End, Then, Statement}
+use Rattle.project_spec.specs.declared.blocks.Block.{Block}
+use Rattle.project_spec.specs.Linked.{Behind, input_links, AreRanks}
+use Rattle.project_spec.specs.Trees.{Sheet, script, script_within, statement, target_of_link}
+use Rattle.project_spec.proofs.Unrolling.{script-none, script-at, falls, next_leads}
+use Rattle.saved_spec.specs.Levels.{script_from}
 use Rattle.saved_levels.specs.Found.{Finds}
 
 -- A chain

@@ -3,17 +3,17 @@ use Rattle.std.proofs.Common.{◌≡◌, ℕ, Bool, true, false, List, [], ◌�
 use Rattle.std.specs.Prelude.{◌&&◌, option_map, option_and_then, if◌then◌else◌}
 use Rattle.std.specs.List.{list_all}
 use Rattle.opcode_table.specs.Kinds.{kind}
-use Rattle.script_machine.specs.declared.threads.Context.TheVariants as context
-use Rattle.script_machine.specs.Called.{called}
-use Rattle.script_machine.specs.Legal.{warp_on}
-use Rattle.script_machine.specs.Pending.{Item, Branch, Again, Back, dos}
-use Rattle.script_machine.specs.Program.{Program}
-use Rattle.script_machine.specs.Script.{Script, End, Then, Statement, op_of}
-use Rattle.script_machine.specs.Threads.{Params}
+use Rattle.machine_spec.specs.declared.threads.Context.TheVariants as context
+use Rattle.machine_spec.specs.Called.{called}
+use Rattle.machine_spec.specs.Legal.{warp_on}
+use Rattle.machine_spec.specs.Pending.{Item, Branch, Again, Back, dos}
+use Rattle.machine_spec.specs.Program.{Program}
+use Rattle.machine_spec.specs.Script.{Script, End, Then, Statement, op_of}
+use Rattle.machine_spec.specs.Threads.{Params}
 use Rattle.thread_frames.specs.Reading.{first_by, marker_by}
-use Rattle.saved_rules.specs.Kept.{Kept, Nothing, Loop, Repeat, Wait, Glide, Started, Asked, Spoken, Call}
-use Rattle.saved_rules.specs.Levels.{top_item, marker_of}
-use Rattle.saved_rules.specs.Threads.{first_fits, marker_fits}
+use Rattle.saved_spec.specs.Kept.{Kept, Nothing, Loop, Repeat, Wait, Glide, Started, Asked, Spoken, Call}
+use Rattle.saved_spec.specs.Levels.{top_item, marker_of}
+use Rattle.saved_spec.specs.Threads.{first_fits, marker_fits}
 use Rattle.saved_levels.specs.Making.{loop_in, context_in, params_in, keeps_under, keeps_first}
 use Rattle.saved_levels.specs.Standing.{fitting}
 

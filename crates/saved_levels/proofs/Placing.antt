@@ -5,27 +5,27 @@ use Rattle.std.specs.List.{list_all, list_any}
 use Rattle.std.specs.Option.{option_map_or}
 use Rattle.std.proofs.lemmas.List.{length-reverse, reverse-append}
 use Rattle.std.proofs.lemmas.List.Folds.{list_all-append}
-use Rattle.script_machine.specs.declared.threads.Status.{Status}
-use Rattle.script_machine.specs.declared.threads.Status.TheVariants.{Running, YieldTick, PromiseWait, Done}
-use Rattle.script_machine.specs.Legal.{scripts_on, waits_for_started}
-use Rattle.script_machine.specs.Pending.{Item, dos}
-use Rattle.script_machine.specs.Program.{Program}
-use Rattle.script_machine.specs.Script.{Script, End, Then, Statement}
-use Rattle.script_machine.specs.Stores.{Devices}
+use Rattle.machine_spec.specs.declared.threads.Status.{Status}
+use Rattle.machine_spec.specs.declared.threads.Status.TheVariants.{Running, YieldTick, PromiseWait, Done}
+use Rattle.machine_spec.specs.Legal.{scripts_on, waits_for_started}
+use Rattle.machine_spec.specs.Pending.{Item, dos}
+use Rattle.machine_spec.specs.Program.{Program}
+use Rattle.machine_spec.specs.Script.{Script, End, Then, Statement}
+use Rattle.machine_spec.specs.Stores.{Devices}
 use Rattle.project_check.specs.declared.project.Project.{Project}
 use Rattle.project_check.specs.Loaded.{program_of, sheet_at}
 use Rattle.thread_frames.specs.declared.level.Level.{Level}
 use Rattle.thread_frames.specs.Levels.{new_level}
 use Rattle.thread_frames.specs.Fit.{IsAtRest}
 use Rattle.thread_frames.specs.Reading.{pending}
-use Rattle.saved_rules.specs.Basis.{basis_of, script_under}
-use Rattle.saved_rules.specs.Kept.{Kept, Nothing, Loop, Repeat, Wait, Glide, Started, Asked, Spoken, Call, SavedLevel, SavedThread, thread_told}
-use Rattle.saved_rules.specs.Legal.{StandsIn, IsLegalThread}
-use Rattle.saved_rules.specs.Levels.{script_among, in_front, level_on, items_under, nothing_left, top_item, items_of, left_of, thread_is_well}
-use Rattle.saved_rules.specs.Rules.{target_of}
-use Rattle.saved_rules.specs.RunShapes.{Told}
-use Rattle.saved_rules.specs.Threads.{is_asked, is_spoken, items_fit, status_fits, promises_fit, stands_well}
-use Rattle.saved_rules.proofs.Standing.{reads}
+use Rattle.saved_spec.specs.Basis.{basis_of, script_under}
+use Rattle.saved_spec.specs.Kept.{Kept, Nothing, Loop, Repeat, Wait, Glide, Started, Asked, Spoken, Call, SavedLevel, SavedThread, thread_told}
+use Rattle.saved_spec.specs.Legal.{StandsIn, IsLegalThread}
+use Rattle.saved_spec.specs.Levels.{script_among, in_front, level_on, items_under, nothing_left, top_item, items_of, left_of, thread_is_well}
+use Rattle.saved_spec.specs.Rules.{target_of}
+use Rattle.saved_spec.specs.RunShapes.{Told}
+use Rattle.saved_spec.specs.Threads.{is_asked, is_spoken, items_fit, status_fits, promises_fit, stands_well}
+use Rattle.saved_spec.proofs.Standing.{reads}
 use Rattle.saved_levels.specs.declared.floors.Site.{Site}
 use Rattle.saved_levels.specs.declared.waiting.Waiting.{Waiting}
 use Rattle.saved_levels.specs.Making.{keeps_asked, keeps_spoken, keeps_started, keeps_nothing, status_by, stands_by}

@@ -3,19 +3,19 @@ use Rattle.std.proofs.Common.{◌≡◌, inl, inr, ℕ, Bool, true, false, List,
 use Rattle.std.specs.Prelude.{slice_get, option_map, option_and_then, if◌then◌else◌, ◌&&◌}
 use Rattle.std.specs.List.{list_all}
 use Rattle.std.proofs.lemmas.Option.{slice_get_within}
-use Rattle.script_machine.specs.Legal.{scripts_on, warp_on}
-use Rattle.script_machine.specs.Pending.{Item, dos}
-use Rattle.script_machine.specs.Program.{Procedure}
+use Rattle.machine_spec.specs.Legal.{scripts_on, warp_on}
+use Rattle.machine_spec.specs.Pending.{Item, dos}
+use Rattle.machine_spec.specs.Program.{Procedure}
 use Rattle.opcode_table.specs.declared.kinds.Kind.{Kind}
-use Rattle.script_machine.specs.Script.{Script, Statement}
-use Rattle.project_file.specs.declared.blocks.Block.{Block}
-use Rattle.project_file.specs.Trees.{call_code, script, statement, target_of_link}
+use Rattle.machine_spec.specs.Script.{Script, Statement}
+use Rattle.project_spec.specs.declared.blocks.Block.{Block}
+use Rattle.project_spec.specs.Trees.{call_code, script, statement, target_of_link}
 use Rattle.thread_frames.specs.declared.level.Level.{Level}
 use Rattle.thread_frames.specs.Fit.{kind_of, top_at}
 use Rattle.thread_frames.specs.Reading.{block_items, items_at, marker, first_item}
-use Rattle.saved_rules.specs.Kept.{Kept}
-use Rattle.saved_rules.specs.Levels.{script_among, in_front, marker_of, top_item}
-use Rattle.saved_rules.specs.Threads.{marker_fits}
+use Rattle.saved_spec.specs.Kept.{Kept}
+use Rattle.saved_spec.specs.Levels.{script_among, in_front, marker_of, top_item}
+use Rattle.saved_spec.specs.Threads.{marker_fits}
 use Rattle.saved_levels.specs.declared.floors.Floor.{Floor}
 use Rattle.saved_levels.specs.declared.floors.Site.{Site}
 use Rattle.saved_levels.specs.Making.{called_at, level_made, loop_in, context_in, keeps_under, keeps_first}

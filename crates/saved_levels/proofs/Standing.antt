@@ -1,18 +1,18 @@
 -- What stands over a level.
 use Rattle.std.proofs.Common.{◌≡◌, ℕ, Bool, true, false, List, ◌∷◌, ◌++◌, ◌||◌, Some, None, refl, sym, ap, ◌∙◌}
 use Rattle.std.specs.Prelude.{slice_get}
-use Rattle.script_machine.specs.declared.threads.Context.{Context}
-use Rattle.script_machine.specs.declared.threads.Context.TheVariants.{Fresh, Repeat, Wait, Glide, Started, Asked, Spoken, Called}
-use Rattle.script_machine.specs.Called.{called, branch_scripts, scripts_in, scripts_over, warp_in, warp_over}
-use Rattle.script_machine.specs.Legal.{scripts_on, warp_on}
-use Rattle.script_machine.specs.Pending.{Item, dos}
-use Rattle.script_machine.specs.Program.{Program}
-use Rattle.script_machine.specs.Script.{Script, Statement, branches_of}
-use Rattle.script_machine.specs.Threads.{Params}
-use Rattle.project_file.specs.declared.blocks.Block.{Block}
-use Rattle.project_file.specs.Trees.{Sheet, script, statement, target_of_link}
+use Rattle.machine_spec.specs.declared.threads.Context.{Context}
+use Rattle.machine_spec.specs.declared.threads.Context.TheVariants.{Fresh, Repeat, Wait, Glide, Started, Asked, Spoken, Called}
+use Rattle.machine_spec.specs.Called.{called, branch_scripts, scripts_in, scripts_over, warp_in, warp_over}
+use Rattle.machine_spec.specs.Legal.{scripts_on, warp_on}
+use Rattle.machine_spec.specs.Pending.{Item, dos}
+use Rattle.machine_spec.specs.Program.{Program}
+use Rattle.machine_spec.specs.Script.{Script, Statement, branches_of}
+use Rattle.machine_spec.specs.Threads.{Params}
+use Rattle.project_spec.specs.declared.blocks.Block.{Block}
+use Rattle.project_spec.specs.Trees.{Sheet, script, statement, target_of_link}
 use Rattle.project_check.specs.Procedures.{procedure_in}
-use Rattle.project_file.specs.declared.blocks.Prototype.{Prototype}
+use Rattle.project_spec.specs.declared.blocks.Prototype.{Prototype}
 use Rattle.thread_frames.specs.declared.level.Level.{Level}
 use Rattle.thread_frames.specs.Reading.{params_in, marker_by, marker, block_items, items_at, beneath}
 use Rattle.saved_levels.specs.declared.floors.Floor.{Floor}

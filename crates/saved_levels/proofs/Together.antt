@@ -3,16 +3,16 @@ use Rattle.std.proofs.Common.{◌≡◌, ℕ, suc, ◌+◌, ◌-◌, slice_get, 
 use Rattle.std.specs.Prelude.{option_map, option_and_then, if◌then◌else◌, ◌&&◌}
 use Rattle.std.specs.List.{list_all}
 use Rattle.std.proofs.lemmas.List.{reverse-append, length-reverse, length_push}
-use Rattle.script_machine.specs.Legal.{scripts_on, warp_on}
-use Rattle.script_machine.specs.Pending.{Item, dos}
-use Rattle.script_machine.specs.Program.{Program}
-use Rattle.script_machine.specs.Script.{Script, End, Then, Statement}
+use Rattle.machine_spec.specs.Legal.{scripts_on, warp_on}
+use Rattle.machine_spec.specs.Pending.{Item, dos}
+use Rattle.machine_spec.specs.Program.{Program}
+use Rattle.machine_spec.specs.Script.{Script, End, Then, Statement}
 use Rattle.thread_frames.specs.declared.level.Level.{Level}
 use Rattle.thread_frames.specs.Fit.{AllUnder}
 use Rattle.thread_frames.specs.Reading.{beneath}
-use Rattle.saved_rules.specs.Kept.{Kept, SavedLevel}
-use Rattle.saved_rules.specs.Levels.{script_among, in_front, level_on, marker_of, marker_on, items_under, top_item, items_of}
-use Rattle.saved_rules.specs.Threads.{marker_fits, items_fit, first_fits}
+use Rattle.saved_spec.specs.Kept.{Kept, SavedLevel}
+use Rattle.saved_spec.specs.Levels.{script_among, in_front, level_on, marker_of, marker_on, items_under, top_item, items_of}
+use Rattle.saved_spec.specs.Threads.{marker_fits, items_fit, first_fits}
 use Rattle.saved_levels.specs.declared.floors.Site.{Site}
 use Rattle.saved_levels.specs.Making.{is_short_level}
 use Rattle.saved_levels.specs.Standing.{fitting, fit_on, fit_from, fitting_first, first_on, sheet_of, program_in, hat_of, Stacks, AreStacked, StacksAll, Tops, whole_of, AreWhole}

@@ -1,10 +1,10 @@
 -- The block of a level among the scripts in which it can stand; for private functions.
 use Rattle.std.specs.Prelude.{◌≡◌, ℕ, List, [], ◌∷◌, Option, Some, None, slice_get, filter_map}
-use Rattle.script_machine.specs.Called.{branch_scripts}
-use Rattle.script_machine.specs.Script.{Script, Then}
-use Rattle.project_file.specs.declared.blocks.Block.{Block}
-use Rattle.project_file.specs.declared.blocks.Input.{Input}
-use Rattle.project_file.specs.Trees.{Sheet, branch, branches_by, script, statement, target_of_link}
+use Rattle.machine_spec.specs.Called.{branch_scripts}
+use Rattle.machine_spec.specs.Script.{Script, Then}
+use Rattle.project_spec.specs.declared.blocks.Block.{Block}
+use Rattle.project_spec.specs.declared.blocks.Input.{Input}
+use Rattle.project_spec.specs.Trees.{Sheet, branch, branches_by, script, statement, target_of_link}
 use Rattle.saved_levels.specs.declared.floors.Room.{Room}
 use Rattle.saved_levels.specs.declared.floors.Room.TheVariants.{Under, In}
 

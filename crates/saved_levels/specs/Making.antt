@@ -2,20 +2,20 @@
 use Rattle.std.specs.Prelude.{ℕ, Bool, true, false, Option, Some, None, ◌&&◌, ◌||◌, not}
 use Rattle.std.specs.List.{list_all}
 use Rattle.opcode_table.specs.declared.kinds.Kind.{Kind}
-use Rattle.script_machine.specs.declared.threads.Context.{Context}
-use Rattle.script_machine.specs.declared.threads.Context.TheVariants as context
-use Rattle.script_machine.specs.declared.threads.Status.{Status}
-use Rattle.script_machine.specs.declared.threads.Status.TheVariants.{Running, YieldTick, PromiseWait, Done}
-use Rattle.script_machine.specs.Called.{called_by}
-use Rattle.script_machine.specs.Program.{Program, Procedure}
-use Rattle.script_machine.specs.Threads.{Params}
-use Rattle.project_file.specs.declared.blocks.Block.{Block}
-use Rattle.project_file.specs.Trees.{call_code}
+use Rattle.machine_spec.specs.declared.threads.Context.{Context}
+use Rattle.machine_spec.specs.declared.threads.Context.TheVariants as context
+use Rattle.machine_spec.specs.declared.threads.Status.{Status}
+use Rattle.machine_spec.specs.declared.threads.Status.TheVariants.{Running, YieldTick, PromiseWait, Done}
+use Rattle.machine_spec.specs.Called.{called_by}
+use Rattle.machine_spec.specs.Program.{Program, Procedure}
+use Rattle.machine_spec.specs.Threads.{Params}
+use Rattle.project_spec.specs.declared.blocks.Block.{Block}
+use Rattle.project_spec.specs.Trees.{call_code}
 use Rattle.thread_frames.specs.Fit.{kind_of}
 use Rattle.thread_frames.specs.declared.level.Level.{Level}
-use Rattle.saved_rules.specs.Kept.{Kept, Nothing, Loop, Repeat, Wait, Glide, Started, Asked, Spoken, Call, SavedLevel}
-use Rattle.saved_rules.specs.Rules.{is_short, values_kept}
-use Rattle.saved_rules.specs.Threads.{loops_with, may_keep, is_choice, has_names}
+use Rattle.saved_spec.specs.Kept.{Kept, Nothing, Loop, Repeat, Wait, Glide, Started, Asked, Spoken, Call, SavedLevel}
+use Rattle.saved_spec.specs.Rules.{is_short, values_kept}
+use Rattle.saved_spec.specs.Threads.{loops_with, may_keep, is_choice, has_names}
 use Rattle.saved_levels.specs.declared.waiting.Waiting.{Waiting}
 use Rattle.saved_levels.specs.Waits.{has_asked, has_spoken}
 

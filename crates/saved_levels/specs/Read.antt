@@ -1,19 +1,19 @@
 -- What the levels of a player's thread are that a saved thread tells.
 use Rattle.std.specs.Prelude.{◌≡◌, ℕ, true, false, List, length, reverse, Option, Some, None, option_map, Vec}
 use Rattle.std.specs.declared.alloc.Global.{Global}
-use Rattle.script_machine.specs.Tasks.{Task}
+use Rattle.machine_spec.specs.Tasks.{Task}
 use Rattle.project_check.specs.declared.project.Project.{Project}
 use Rattle.project_check.specs.Loaded.{sheet_at}
 use Rattle.thread_frames.specs.declared.level.Level.{Level}
 use Rattle.thread_frames.specs.Levels.{warp_flag}
 use Rattle.thread_frames.specs.Fit.{IsAtRest}
 use Rattle.thread_frames.specs.Reading.{pending}
-use Rattle.saved_rules.specs.Basis.{basis_of}
-use Rattle.saved_rules.specs.Kept.{SavedThread, thread_told}
-use Rattle.saved_rules.specs.Legal.{IsLegalThread}
-use Rattle.saved_rules.specs.Levels.{left_of, thread_is_well}
-use Rattle.saved_rules.specs.Rules.{target_of}
-use Rattle.saved_rules.specs.RunShapes.{Told}
+use Rattle.saved_spec.specs.Basis.{basis_of}
+use Rattle.saved_spec.specs.Kept.{SavedThread, thread_told}
+use Rattle.saved_spec.specs.Legal.{IsLegalThread}
+use Rattle.saved_spec.specs.Levels.{left_of, thread_is_well}
+use Rattle.saved_spec.specs.Rules.{target_of}
+use Rattle.saved_spec.specs.RunShapes.{Told}
 
 -- the thread of the machine with these levels
 abbrev pub task_with : Project → ℕ → SavedThread → List Level → Task

@@ -3,22 +3,22 @@ use Rattle.std.specs.Prelude.{◌≡◌, ◌⊎◌, ℕ, Bool, true, false, List
 use Rattle.std.specs.List.{list_all}
 use Rattle.std.specs.Option.{option_map_or}
 use Rattle.opcode_table.specs.declared.kinds.Kind.{Kind}
-use Rattle.script_machine.specs.declared.threads.Status.{Status}
-use Rattle.script_machine.specs.Called.{scripts_over, warp_over}
-use Rattle.script_machine.specs.Legal.{scripts_on, warp_on}
-use Rattle.script_machine.specs.Pending.{Item}
-use Rattle.script_machine.specs.Program.{Program, Procedure}
-use Rattle.script_machine.specs.Script.{Script, Statement}
-use Rattle.script_machine.specs.Stores.{Devices}
+use Rattle.machine_spec.specs.declared.threads.Status.{Status}
+use Rattle.machine_spec.specs.Called.{scripts_over, warp_over}
+use Rattle.machine_spec.specs.Legal.{scripts_on, warp_on}
+use Rattle.machine_spec.specs.Pending.{Item}
+use Rattle.machine_spec.specs.Program.{Program, Procedure}
+use Rattle.machine_spec.specs.Script.{Script, Statement}
+use Rattle.machine_spec.specs.Stores.{Devices}
 use Rattle.project_check.specs.Loaded.{program_of, sheet_at}
-use Rattle.project_file.specs.Trees.{Sheet, script}
+use Rattle.project_spec.specs.Trees.{Sheet, script}
 use Rattle.thread_frames.specs.declared.level.Level.{Level}
 use Rattle.thread_frames.specs.Levels.{warp_flag}
 use Rattle.thread_frames.specs.Fit.{kind_of, IsUnder, AllUnder, IsTop, IsAtRest}
 use Rattle.thread_frames.specs.Reading.{marker, first_item, items_at, beneath, pending}
-use Rattle.saved_rules.specs.Kept.{Kept, SavedLevel}
-use Rattle.saved_rules.specs.Levels.{script_among, level_on, marker_on, top_item, items_of}
-use Rattle.saved_rules.specs.Threads.{marker_fits, items_fit, stands_well}
+use Rattle.saved_spec.specs.Kept.{Kept, SavedLevel}
+use Rattle.saved_spec.specs.Levels.{script_among, level_on, marker_on, top_item, items_of}
+use Rattle.saved_spec.specs.Threads.{marker_fits, items_fit, stands_well}
 use Rattle.saved_levels.specs.declared.floors.Floor.{Floor}
 use Rattle.saved_levels.specs.declared.floors.Site.{Site}
 use Rattle.saved_levels.specs.declared.waiting.Waiting.{Waiting}

@@ -4,15 +4,15 @@ ghost use Rattle.std.specs.Prelude.{◌≡◌};
 ghost use Rattle.std.specs.Option.{option_map};
 ghost use Rattle.project_check.specs.Loaded.{program_of, sheet_at};
 ghost use Rattle.project_check.specs.Procedures.{callee_in, procedure_in};
-ghost use Rattle.project_file.specs.Trees.{call_code, op_by};
-ghost use Rattle.script_machine.specs.Keeping.{is_calls};
+ghost use Rattle.project_spec.specs.Trees.{call_code, op_by};
+ghost use Rattle.machine_spec.specs.Keeping.{is_calls};
 ghost use Rattle.thread_frames.specs.Fit.{kind_of};
 ghost use Rattle.saved_levels.specs.Making.{called_at};
 
+use machine_spec::TargetId;
 use opcode_table::{Kind, Opcode, kind};
 use project_check::{Callee, Project};
-use project_file::{Block, Code, Mutation};
-use script_machine::TargetId;
+use project_spec::{Block, Code, Mutation};
 
 fn op_of(block: &Block) -> Opcode
     ensures { result ≡ op_by block.now.code }

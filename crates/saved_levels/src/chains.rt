@@ -3,15 +3,15 @@
 ghost use Rattle.std.specs.Prelude.{◌≡◌, ◌<◌, ◌∷◌, [], ℕ, List, length, slice_get, IfSome};
 ghost use Rattle.std.specs.Option.{option_copied};
 ghost use Rattle.project_check.specs.Loaded.{tables_of, blocks_at, ranks_at, sheet_at};
-ghost use Rattle.project_file.specs.Linked.{AreRanks, is_branch};
-ghost use Rattle.project_file.specs.Trees.{branch_by, script, target_of_link};
-ghost use Rattle.saved_rules.specs.Levels.{script_from, script_among};
+ghost use Rattle.project_spec.specs.Linked.{AreRanks, is_branch};
+ghost use Rattle.project_spec.specs.Trees.{branch_by, script, target_of_link};
+ghost use Rattle.saved_spec.specs.Levels.{script_from, script_among};
 ghost use Rattle.saved_levels.specs.Found.{Finds, scripts_in, scripts_under};
 
+use machine_spec::{BlockId, TargetId};
 use project_check::Project;
-use project_file::{Block, Input, Link};
 use project_json::Text;
-use script_machine::{BlockId, TargetId};
+use project_spec::{Block, Input, Link};
 
 // The block to which a link leads.
 pub(crate) fn linked(link: &Option<Link>) -> Option<BlockId>

@@ -2,21 +2,21 @@
 
 ghost use Rattle.std.specs.Prelude.{◌≡◌, ◌<◌, ◌∷◌, ◌++◌, [], List, Some, length, reverse, slice_get};
 ghost use Rattle.project_check.specs.Loaded.{blocks_at, program_of, sheet_at, tables_of};
-ghost use Rattle.project_file.specs.Trees.{statement};
-ghost use Rattle.script_machine.specs.Called.{scripts_over, warp_over};
-ghost use Rattle.script_machine.specs.Script.{Script};
+ghost use Rattle.project_spec.specs.Trees.{statement};
+ghost use Rattle.machine_spec.specs.Called.{scripts_over, warp_over};
+ghost use Rattle.machine_spec.specs.Script.{Script};
 ghost use Rattle.thread_frames.specs.Fit.{AllUnder, IsUnder};
 ghost use Rattle.thread_frames.specs.declared.level.Level.{Level as Seen};
 ghost use Rattle.thread_frames.specs.Reading.{beneath};
-ghost use Rattle.saved_rules.specs.Levels.{script_among};
+ghost use Rattle.saved_spec.specs.Levels.{script_among};
 ghost use Rattle.saved_levels.specs.Found.{Finds, room_scripts};
 ghost use Rattle.saved_levels.specs.Standing.{IsFloor, IsOver, hat_of, program_in, sheet_of};
 
 use crate::calls::called;
 use crate::chains::{in_branches, in_chain};
+use machine_spec::{BlockId, TargetId};
 use project_check::Project;
-use project_file::Block;
-use script_machine::{BlockId, TargetId};
+use project_spec::Block;
 use thread_frames::Level;
 
 // The scripts in which a level can stand: the one that begins with a block, or the branches of a block.

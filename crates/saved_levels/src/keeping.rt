@@ -2,21 +2,21 @@
 
 ghost use Rattle.std.specs.Prelude.{◌≡◌, ℕ};
 ghost use Rattle.project_check.specs.Loaded.{program_of};
-ghost use Rattle.script_machine.specs.declared.threads.Context.TheVariants.{Fresh, Repeat, Wait, Glide, Started, Asked, Spoken};
-ghost use Rattle.script_machine.specs.Keeping.{is_left};
+ghost use Rattle.machine_spec.specs.declared.threads.Context.TheVariants.{Fresh, Repeat, Wait, Glide, Started, Asked, Spoken};
+ghost use Rattle.machine_spec.specs.Keeping.{is_left};
 ghost use Rattle.saved_parts.specs.Telling.{kept_of};
-ghost use Rattle.saved_rules.specs.Threads.{is_above_zero, is_choice, is_from_zero, is_some_thread, loops_with, may_keep};
+ghost use Rattle.saved_spec.specs.Threads.{is_above_zero, is_choice, is_from_zero, is_some_thread, loops_with, may_keep};
 ghost use Rattle.thread_frames.specs.Fit.{kind_of};
 ghost use Rattle.saved_levels.specs.Making.{called_at, keeps_first, keeps_under};
 
 use crate::calls::kind_of;
 use crate::naming::have_names;
+use machine_spec::{Count, GlideState, TargetId, WaitState};
 use opcode_table::Kind;
 use project_check::Project;
-use project_file::Block;
+use project_spec::Block;
 use saved_parts::ToldKept;
 use scratch_number::Num;
-use script_machine::{Count, GlideState, TargetId, WaitState};
 
 fn is_from_zero(number: Num) -> bool
     ensures { result ≡ is_from_zero number }

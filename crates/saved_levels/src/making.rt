@@ -3,12 +3,12 @@
 ghost use Rattle.std.specs.Prelude.{◌≡◌, true, map, IfOk, OnOk, ◌++◌, ◌∷◌, []};
 ghost use Rattle.std.specs.List.{list_all};
 ghost use Rattle.saved_parts.specs.Telling.{kept_of, param_of, value_of};
-ghost use Rattle.saved_rules.specs.Rules.{is_short, values_kept};
+ghost use Rattle.saved_spec.specs.Rules.{is_short, values_kept};
 ghost use Rattle.saved_levels.specs.Making.{level_made};
 
+use machine_spec::{BlockId, Boxed, Context, Serial, Serials};
 use saved_parts::{ToldKept, ToldParam, ToldParams, ToldSerials, ToldValue};
 use scratch_values::{BoundText, Params, Value};
-use script_machine::{BlockId, Boxed, Context, Serial, Serials};
 use std::alloc::{AllocError, Global};
 use thread_frames::Level;
 

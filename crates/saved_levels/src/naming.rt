@@ -3,18 +3,18 @@
 ghost use Rattle.std.specs.Prelude.{◌≡◌, ◌≤◌, map, length, bytes_eq, take, slice_get};
 ghost use Rattle.std.specs.List.{list_any};
 ghost use Rattle.project_check.specs.Loaded.{program_of};
-ghost use Rattle.script_machine.specs.Legal.{distinct};
+ghost use Rattle.machine_spec.specs.Legal.{distinct};
 ghost use Rattle.saved_parts.specs.Telling.{param_of};
-ghost use Rattle.saved_rules.specs.Threads.{has_names, same_texts};
+ghost use Rattle.saved_spec.specs.Threads.{has_names, same_texts};
 ghost use Rattle.saved_levels.specs.Making.{called_at};
 ghost use Rattle.saved_levels.specs.Naming.{has_at};
 
 use crate::calls::called;
+use machine_spec::TargetId;
 use project_check::Project;
-use project_file::Block;
 use project_json::Text;
+use project_spec::Block;
 use saved_parts::ToldParam;
-use script_machine::TargetId;
 
 // Whether a parameter among the first ones has the name.
 fn is_before(params: &[ToldParam], count: usize, name: &str) -> bool

@@ -4,18 +4,18 @@ ghost use Rattle.std.specs.Prelude.{◌≡◌, ◌<◌, List, true, map, length,
 ghost use Rattle.std.specs.Option.{option_map};
 ghost use Rattle.std.specs.List.{list_all};
 ghost use Rattle.project_check.specs.Loaded.{tables_of};
-ghost use Rattle.script_machine.specs.Pending.{Item};
+ghost use Rattle.machine_spec.specs.Pending.{Item};
 ghost use Rattle.saved_parts.specs.Telling.{kept_of, level_of};
-ghost use Rattle.saved_rules.specs.Rules.{is_short, values_kept};
-ghost use Rattle.saved_rules.specs.Threads.{marker_fits};
+ghost use Rattle.saved_spec.specs.Rules.{is_short, values_kept};
+ghost use Rattle.saved_spec.specs.Threads.{marker_fits};
 ghost use Rattle.saved_levels.specs.Making.{is_short_level, keeps_first, keeps_under};
 ghost use Rattle.saved_levels.specs.Standing.{FindsKept, IsFloor, Stacks, StacksAll, Tops, hat_of, program_in, sheet_of};
 
 use crate::floors::{Floor, Site, floor_on, search};
 use crate::keeping::{keeps_first, keeps_under};
 use crate::making::level;
+use machine_spec::BlockId;
 use saved_parts::{ToldKept, ToldLevel};
-use script_machine::BlockId;
 use std::alloc::{AllocError, Global};
 use thread_frames::Level;
 

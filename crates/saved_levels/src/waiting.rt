@@ -8,8 +8,8 @@ ghost use Rattle.saved_parts.specs.Telling.{kept_of, question_of};
 ghost use Rattle.saved_levels.specs.Making.{keeps_asked, keeps_spoken, keeps_started, stands_by, status_by};
 ghost use Rattle.saved_levels.specs.Waits.{Tells, has_asked, has_spoken};
 
+use machine_spec::{BubbleTimer, Status};
 use saved_parts::{ToldKept, ToldQuestion};
-use script_machine::{BubbleTimer, Status};
 use std::alloc::{AllocError, Global};
 use std::collections::BTreeSet;
 

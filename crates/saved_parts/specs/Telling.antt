@@ -1,18 +1,18 @@
 -- What the parts of a text tell, as the rules of saved runs see it.
 use Rattle.std.specs.Prelude.{ℕ, Bool, true, false, List, map, filter_map, reverse}
-use Rattle.script_machine.specs.declared.bubble.Bubble.{Bubble}
-use Rattle.script_machine.specs.declared.instance.Instance.{Instance}
-use Rattle.script_machine.specs.declared.devices.Question.{Question}
-use Rattle.script_machine.specs.declared.variables.Made.{Made}
-use Rattle.script_machine.specs.declared.variables.Shown.{Shown}
-use Rattle.script_machine.specs.declared.variables.Shown.TheVariants.{Variable, List as Items}
-use Rattle.script_machine.specs.declared.variables.Store.{Store}
-use Rattle.script_machine.specs.ScriptText.{key_of_rest}
+use Rattle.machine_spec.specs.declared.bubble.Bubble.{Bubble}
+use Rattle.machine_spec.specs.declared.instance.Instance.{Instance}
+use Rattle.machine_spec.specs.declared.devices.Question.{Question}
+use Rattle.machine_spec.specs.declared.variables.Made.{Made}
+use Rattle.machine_spec.specs.declared.variables.Shown.{Shown}
+use Rattle.machine_spec.specs.declared.variables.Shown.TheVariants.{Variable, List as Items}
+use Rattle.machine_spec.specs.declared.variables.Store.{Store}
+use Rattle.machine_spec.specs.ScriptText.{key_of_rest}
 use Rattle.scratch_values.specs.declared.value.Value.{Value}
 use Rattle.scratch_values.specs.declared.value.Value.TheVariants as value
-use Rattle.saved_rules.specs.Kept as kept
-use Rattle.saved_rules.specs.InstanceShapes.{Standing}
-use Rattle.saved_rules.specs.RunShapes.{Told, Mouse, Next, stores_in_order}
+use Rattle.saved_spec.specs.Kept as kept
+use Rattle.saved_spec.specs.InstanceShapes.{Standing}
+use Rattle.saved_spec.specs.RunShapes.{Told, Mouse, Next, stores_in_order}
 use Rattle.saved_parts.specs.declared.values.ToldValue.{ToldValue}
 use Rattle.saved_parts.specs.declared.values.ToldValue.TheVariants.{Number, Truth, Text}
 use Rattle.saved_parts.specs.declared.instances.ToldBubble.{ToldBubble}

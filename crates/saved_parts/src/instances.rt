@@ -2,9 +2,9 @@
 
 use crate::values::{ToldLists, ToldValues};
 use lists::ListOf;
+use machine_spec::{Effects, Say, Style};
 use project_json::Text;
 use scratch_number::Num;
-use script_machine::{Effects, Say, Style};
 
 /// A bubble: its kind, its text, and the number of its last update.
 #[derive(Debug, Drop)]

@@ -3,8 +3,8 @@
 use crate::instances::ToldInstances;
 use crate::threads::ToldThreads;
 use lists::ListOf;
+use machine_spec::BubbleTimers;
 use project_json::Text;
-use script_machine::BubbleTimers;
 
 /// Names of keys, which may be no keys.
 pub type ToldKeys = ListOf<Text>;

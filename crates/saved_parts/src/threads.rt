@@ -2,8 +2,8 @@
 
 use crate::values::ToldValue;
 use lists::ListOf;
+use machine_spec::{Count, GlideState, Status, WaitState};
 use project_json::Text;
-use script_machine::{Count, GlideState, Status, WaitState};
 
 /// The numbers of the threads that a block waits for.
 pub type ToldSerials = ListOf<u64>;

@@ -1,6 +1,6 @@
 -- The items of a list, as a reader sees them.
 use Rattle.std.proofs.Common.{◌≡◌, List, [], ◌∷◌, map, refl, ap}
-use Rattle.saved_rules.specs.Shapes.{list_of}
+use Rattle.saved_spec.specs.Shapes.{list_of}
 use Rattle.serde_json.specs.View.{view, items_view}
 use Rattle.serde_json.specs.declared.value.Value.{Value}
 

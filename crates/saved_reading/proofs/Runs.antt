@@ -5,11 +5,11 @@ use Rattle.std.proofs.lemmas.Simd.{map-map}
 use Rattle.serde_json.specs.Data.{Data}
 use Rattle.saved_parts.specs.Telling.{made_of, mouse_of, next_of, question_of, standing_of, thread_of, told_of}
 use Rattle.saved_parts.specs.declared.run.ToldRun.{ToldRun}
-use Rattle.saved_rules.specs.InstanceShapes.{Standing, instance}
-use Rattle.saved_rules.specs.RunShapes.{digest, made, mouse, next, question, run, timer}
-use Rattle.saved_rules.specs.Shapes.{whole, truth, text, each, table, member}
-use Rattle.saved_rules.specs.ThreadShapes.{thread}
-use Rattle.script_machine.specs.declared.devices.BubbleTimer.{BubbleTimer}
+use Rattle.saved_spec.specs.InstanceShapes.{Standing, instance}
+use Rattle.saved_spec.specs.RunShapes.{digest, made, mouse, next, question, run, timer}
+use Rattle.saved_spec.specs.Shapes.{whole, truth, text, each, table, member}
+use Rattle.saved_spec.specs.ThreadShapes.{thread}
+use Rattle.machine_spec.specs.declared.devices.BubbleTimer.{BubbleTimer}
 
 pub run-told :
     (at : List (List ℕ)) (d : Data) (r : ToldRun) (version : ℕ)

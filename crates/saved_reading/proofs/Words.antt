@@ -6,12 +6,12 @@ use Rattle.serde_json.specs.Data.{Data}
 use Rattle.serde_json.specs.Find.{as_str}
 use Rattle.serde_json.specs.View.{view}
 use Rattle.serde_json.specs.declared.value.Value.{Value}
-use Rattle.saved_rules.specs.ThreadShapes.{worded, kept_readers}
+use Rattle.saved_spec.specs.ThreadShapes.{worded, kept_readers}
 use Rattle.scratch_values.specs.Named.{item_named}
-use Rattle.shapes.specs.Places.{path}
-use Rattle.shapes.specs.Reads.{Reads, IsFaultAt}
-use Rattle.shapes.specs.declared.fault.Fault.{Fault}
-use Rattle.shapes.specs.declared.fault.Fault.TheVariants.{Shape, NoMemory}
+use Rattle.json_shapes.specs.Places.{path}
+use Rattle.json_shapes.specs.Reads.{Reads, IsFaultAt}
+use Rattle.json_shapes.specs.declared.fault.Fault.{Fault}
+use Rattle.json_shapes.specs.declared.fault.Fault.TheVariants.{Shape, NoMemory}
 use Rattle.saved_reading.specs.Parts.{kept_named}
 
 -- the text of the first place

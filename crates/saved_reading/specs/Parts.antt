@@ -6,10 +6,10 @@ use Rattle.serde_json.specs.Find.{get}
 use Rattle.scratch_values.specs.Named.{item_named}
 use Rattle.scratch_values.specs.declared.value.Value.{Value}
 use Rattle.scratch_values.specs.declared.value.Value.TheVariants.{Number}
-use Rattle.shapes.specs.Shapes.{Reader, found, ◌>>=◌}
-use Rattle.saved_rules.specs.Kept.{Kept}
-use Rattle.saved_rules.specs.Shapes.{num, row, part}
-use Rattle.saved_rules.specs.ThreadShapes.{kept_readers}
+use Rattle.json_shapes.specs.Shapes.{Reader, found, ◌>>=◌}
+use Rattle.saved_spec.specs.Kept.{Kept}
+use Rattle.saved_spec.specs.Shapes.{num, row, part}
+use Rattle.saved_spec.specs.ThreadShapes.{kept_readers}
 
 -- the item at a place of a list
 abbrev pub item_at : ℕ → Reader (List Data) Data

@@ -1,13 +1,13 @@
 -- The words of a saved run, each with what it stands for; private functions alone cite these.
 use Rattle.std.specs.Prelude.{ℕ, List, [], ◌∷◌, codes}
-use Rattle.script_machine.specs.declared.bubble.Say.{Say}
-use Rattle.script_machine.specs.declared.bubble.Say.TheVariants as kind
-use Rattle.script_machine.specs.declared.threads.Count.{Count}
-use Rattle.script_machine.specs.declared.threads.Count.TheVariants.{Infinite}
-use Rattle.script_machine.specs.declared.threads.Status.{Status}
-use Rattle.script_machine.specs.declared.threads.Status.TheVariants.{Running, YieldTick, PromiseWait}
-use Rattle.script_machine.specs.declared.variables.Shown.{Shown}
-use Rattle.script_machine.specs.declared.variables.Shown.TheVariants.{Variable, List as Items}
+use Rattle.machine_spec.specs.declared.bubble.Say.{Say}
+use Rattle.machine_spec.specs.declared.bubble.Say.TheVariants as kind
+use Rattle.machine_spec.specs.declared.threads.Count.{Count}
+use Rattle.machine_spec.specs.declared.threads.Count.TheVariants.{Infinite}
+use Rattle.machine_spec.specs.declared.threads.Status.{Status}
+use Rattle.machine_spec.specs.declared.threads.Status.TheVariants.{Running, YieldTick, PromiseWait}
+use Rattle.machine_spec.specs.declared.variables.Shown.{Shown}
+use Rattle.machine_spec.specs.declared.variables.Shown.TheVariants.{Variable, List as Items}
 
 -- kinds of bubbles
 abbrev pub say_words : List (List ℕ × Say)

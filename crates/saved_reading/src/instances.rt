@@ -2,19 +2,19 @@
 
 ghost use Rattle.std.specs.Prelude.{ℕ, Bool, List, ◌≡◌, map, length};
 ghost use Rattle.saved_parts.specs.Telling.{bubble_of, standing_of};
-ghost use Rattle.saved_rules.specs.InstanceShapes as shape;
-ghost use Rattle.saved_rules.specs.InstanceShapes.{Standing, rises, rises_above, style_numbered};
-ghost use Rattle.saved_rules.specs.Shapes as parts;
+ghost use Rattle.saved_spec.specs.InstanceShapes as shape;
+ghost use Rattle.saved_spec.specs.InstanceShapes.{Standing, rises, rises_above, style_numbered};
+ghost use Rattle.saved_spec.specs.Shapes as parts;
 ghost use Rattle.scratch_values.specs.Named.{item_named};
 ghost use Rattle.saved_reading.specs.Words.{say_words};
 
 use crate::parts::{Shaped, each_item, found, member, part, row, table};
+use json_shapes::{Fault, Place};
 use lists::ListOf;
+use machine_spec::{Effect, Effects, Say, Style};
 use saved_parts::{ToldBubble, ToldEdges, ToldInstance};
 use scratch_number::Num;
-use script_machine::{Effect, Effects, Say, Style};
 use serde_json::Value;
-use shapes::{Fault, Place};
 use std::alloc::Global;
 
 // A kind of bubble, by its word.
@@ -29,7 +29,7 @@ fn say_named(word: &str) -> Option<Say>
 }
 
 impl Shaped for Say {
-    ghost use Rattle.script_machine.specs.declared.bubble.Say.{Say};
+    ghost use Rattle.machine_spec.specs.declared.bubble.Say.{Say};
 
     ghost Seen = { Say };
 
@@ -43,7 +43,7 @@ impl Shaped for Say {
 }
 
 impl Shaped for ToldBubble {
-    ghost use Rattle.script_machine.specs.declared.bubble.Bubble.{Bubble};
+    ghost use Rattle.machine_spec.specs.declared.bubble.Bubble.{Bubble};
 
     ghost Seen = { Bubble };
 
@@ -132,7 +132,7 @@ fn style_numbered(number: u64) -> Option<Style>
 }
 
 impl Shaped for Style {
-    ghost use Rattle.script_machine.specs.declared.instance.Style.{Style};
+    ghost use Rattle.machine_spec.specs.declared.instance.Style.{Style};
 
     ghost Seen = { Style };
 

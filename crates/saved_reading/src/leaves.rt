@@ -1,15 +1,15 @@
 //! Numbers, truths and texts.
 
 ghost use Rattle.std.specs.Prelude.{ℕ, ℤ, Bool, List, ◌≡◌};
-ghost use Rattle.saved_rules.specs.Shapes as shape;
-ghost use Rattle.saved_rules.specs.Shapes.{millionths, num_words};
+ghost use Rattle.saved_spec.specs.Shapes as shape;
+ghost use Rattle.saved_spec.specs.Shapes.{millionths, num_words};
 ghost use Rattle.scratch_values.specs.Named.{item_named};
 
 use crate::parts::{Shaped, found};
+use json_shapes::{Fault, Place};
 use project_json::Text;
 use scratch_number::{Num, Raw};
 use serde_json::Value;
-use shapes::{Fault, Place};
 use std::alloc::Global;
 
 impl Shaped for u64 {

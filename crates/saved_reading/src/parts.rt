@@ -3,15 +3,15 @@
 ghost use Rattle.std.specs.Prelude.{List, ℕ, Result, ◌≡◌, map, length, IfOk};
 ghost use Rattle.std.specs.Option.{option_map};
 ghost use Rattle.saved_reading.specs.Parts.{item_at, named};
-ghost use Rattle.saved_rules.specs.Shapes as shape;
+ghost use Rattle.saved_spec.specs.Shapes as shape;
 ghost use Rattle.serde_json.specs.Data.{Data};
 ghost use Rattle.serde_json.specs.View.{view};
-ghost use Rattle.shapes.specs.Reads.{Reads};
-ghost use Rattle.shapes.specs.Shapes.{found};
+ghost use Rattle.json_shapes.specs.Reads.{Reads};
+ghost use Rattle.json_shapes.specs.Shapes.{found};
 
+use json_shapes::{Fault, Place};
 use lists::ListOf;
 use serde_json::Value;
-use shapes::{Fault, Place};
 use std::alloc::Global;
 
 // A part of a saved run, which is read as `shape` says. Contracts see it as `seen`.

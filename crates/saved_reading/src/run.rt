@@ -4,23 +4,23 @@ ghost use Rattle.std.specs.Prelude.{ℕ, Bool, List, [], ◌≡◌};
 ghost use Rattle.std.specs.List.{list_all};
 ghost use Rattle.std.specs.Option.{option_map};
 ghost use Rattle.saved_parts.specs.Telling.{made_of, mouse_of, next_of, question_of, shown_of, told_of};
-ghost use Rattle.saved_rules.specs.RunShapes as shape;
-ghost use Rattle.saved_rules.specs.RunShapes.{Told, is_digest, is_digit};
+ghost use Rattle.saved_spec.specs.RunShapes as shape;
+ghost use Rattle.saved_spec.specs.RunShapes.{Told, is_digest, is_digit};
 ghost use Rattle.scratch_values.specs.Named.{item_named};
 ghost use Rattle.serde_json.specs.View.{view};
-ghost use Rattle.shapes.specs.Reads.{Reads};
+ghost use Rattle.json_shapes.specs.Reads.{Reads};
 ghost use Rattle.saved_reading.specs.Words.{shown_words};
 
 use crate::parts::{Shaped, member, part, row, table};
+use json_shapes::{Fault, Place};
+use machine_spec::{BubbleTimer, InstanceId, Serial};
 use project_json::Text;
 use saved_parts::{ToldMade, ToldMouse, ToldNext, ToldQuestion, ToldRun};
-use script_machine::{BubbleTimer, InstanceId, Serial};
 use serde_json::Value;
-use shapes::{Fault, Place};
 use std::alloc::Global;
 
 impl Shaped for ToldQuestion {
-    ghost use Rattle.script_machine.specs.declared.devices.Question.{Question};
+    ghost use Rattle.machine_spec.specs.declared.devices.Question.{Question};
 
     ghost Seen = { Question };
 
@@ -44,7 +44,7 @@ impl Shaped for ToldQuestion {
 }
 
 impl Shaped for BubbleTimer {
-    ghost use Rattle.script_machine.specs.declared.devices.BubbleTimer.{BubbleTimer};
+    ghost use Rattle.machine_spec.specs.declared.devices.BubbleTimer.{BubbleTimer};
 
     ghost Seen = { BubbleTimer };
 
@@ -83,7 +83,7 @@ fn list_named(word: &str) -> Option<bool>
 struct IsList(bool);
 
 impl Shaped for IsList {
-    ghost use Rattle.script_machine.specs.declared.variables.Shown.{Shown};
+    ghost use Rattle.machine_spec.specs.declared.variables.Shown.{Shown};
 
     ghost Seen = { ℕ → ℕ → Shown };
 
@@ -100,7 +100,7 @@ impl Shaped for IsList {
 }
 
 impl Shaped for ToldMade {
-    ghost use Rattle.script_machine.specs.declared.variables.Made.{Made};
+    ghost use Rattle.machine_spec.specs.declared.variables.Made.{Made};
 
     ghost Seen = { Made };
 
@@ -124,7 +124,7 @@ impl Shaped for ToldMade {
 }
 
 impl Shaped for ToldMouse {
-    ghost use Rattle.saved_rules.specs.RunShapes.{Mouse};
+    ghost use Rattle.saved_spec.specs.RunShapes.{Mouse};
 
     ghost Seen = { Mouse };
 
@@ -142,7 +142,7 @@ impl Shaped for ToldMouse {
 }
 
 impl Shaped for ToldNext {
-    ghost use Rattle.saved_rules.specs.RunShapes.{Next};
+    ghost use Rattle.saved_spec.specs.RunShapes.{Next};
 
     ghost Seen = { Next };
 

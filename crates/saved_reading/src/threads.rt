@@ -2,20 +2,20 @@
 
 ghost use Rattle.std.specs.Prelude.{ℕ, List, ◌∷◌, ◌≡◌, codes, map};
 ghost use Rattle.saved_parts.specs.Telling.{kept_of, level_of, param_of, thread_of};
-ghost use Rattle.saved_rules.specs.ThreadShapes as shape;
-ghost use Rattle.saved_rules.specs.ThreadShapes.{turns, kept_readers};
+ghost use Rattle.saved_spec.specs.ThreadShapes as shape;
+ghost use Rattle.saved_spec.specs.ThreadShapes.{turns, kept_readers};
 ghost use Rattle.scratch_values.specs.Named.{item_named};
 ghost use Rattle.serde_json.specs.View.{view};
-ghost use Rattle.shapes.specs.Places.{path};
-ghost use Rattle.shapes.specs.Reads.{Reads, IsFaultAt};
+ghost use Rattle.json_shapes.specs.Places.{path};
+ghost use Rattle.json_shapes.specs.Reads.{Reads, IsFaultAt};
 ghost use Rattle.saved_reading.specs.Parts.{kept_named};
 ghost use Rattle.saved_reading.specs.Words.{count_words, status_words};
 
 use crate::parts::{Shaped, found, items, member, part, row, sized, table};
+use json_shapes::{Fault, Place};
+use machine_spec::{Count, GlideState, Status, WaitState};
 use saved_parts::{ToldKept, ToldLevel, ToldParam, ToldThread};
-use script_machine::{Count, GlideState, Status, WaitState};
 use serde_json::Value;
-use shapes::{Fault, Place};
 use std::alloc::Global;
 
 // The most turns that a loop can have left.
@@ -41,7 +41,7 @@ fn turns(number: i64) -> Option<Count>
 }
 
 impl Shaped for Count {
-    ghost use Rattle.script_machine.specs.declared.threads.Count.{Count};
+    ghost use Rattle.machine_spec.specs.declared.threads.Count.{Count};
 
     ghost Seen = { Count };
 
@@ -172,7 +172,7 @@ fn worded(alloc: Global, place: &Place, items: &[Value]) -> Result<ToldKept, Fau
 }
 
 impl Shaped for ToldKept {
-    ghost use Rattle.saved_rules.specs.Kept.{Kept};
+    ghost use Rattle.saved_spec.specs.Kept.{Kept};
 
     ghost Seen = { Kept };
 
@@ -190,7 +190,7 @@ impl Shaped for ToldKept {
 }
 
 impl Shaped for ToldLevel {
-    ghost use Rattle.saved_rules.specs.Kept.{SavedLevel};
+    ghost use Rattle.saved_spec.specs.Kept.{SavedLevel};
 
     ghost Seen = { SavedLevel };
 
@@ -218,7 +218,7 @@ fn status_named(word: &str) -> Option<Status>
 }
 
 impl Shaped for Status {
-    ghost use Rattle.script_machine.specs.declared.threads.Status.{Status};
+    ghost use Rattle.machine_spec.specs.declared.threads.Status.{Status};
 
     ghost Seen = { Status };
 
@@ -232,7 +232,7 @@ impl Shaped for Status {
 }
 
 impl Shaped for ToldThread {
-    ghost use Rattle.saved_rules.specs.Kept.{SavedThread};
+    ghost use Rattle.saved_spec.specs.Kept.{SavedThread};
 
     ghost Seen = { SavedThread };
 

@@ -1,16 +1,16 @@
 //! Values of variables and items.
 
 ghost use Rattle.saved_parts.specs.Telling.{value_of};
-ghost use Rattle.saved_rules.specs.Shapes as shape;
+ghost use Rattle.saved_spec.specs.Shapes as shape;
 ghost use Rattle.serde_json.specs.View.{view};
-ghost use Rattle.shapes.specs.Reads.{Reads};
+ghost use Rattle.json_shapes.specs.Reads.{Reads};
 ghost use Rattle.saved_reading.specs.Parts.{listed_number};
 
 use crate::parts::{Shaped, part, row};
+use json_shapes::{Fault, Place};
 use project_json::Text;
 use saved_parts::ToldValue;
 use serde_json::Value;
-use shapes::{Fault, Place};
 use std::alloc::Global;
 
 // The number of a list of one number.

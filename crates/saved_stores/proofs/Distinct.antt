@@ -3,10 +3,10 @@ use Rattle.std.proofs.Common.{◌≡◌, ℕ, ◌==◌, Bool, true, false, ◌&&
 use Rattle.std.specs.Prelude.{nat_lt, not, if◌then◌else◌}
 use Rattle.std.specs.List.{list_any, list_all}
 use Rattle.std.proofs.lemmas.Bool.Decides.{nat_tests}
-use Rattle.script_machine.specs.declared.variables.Store.{Store}
+use Rattle.machine_spec.specs.declared.variables.Store.{Store}
 use Rattle.variables.specs.Distinct.{numbers, IsDistinct}
-use Rattle.saved_rules.specs.Rules.{differ}
-use Rattle.saved_rules.specs.RunShapes.{store_among, stores_in_order}
+use Rattle.saved_spec.specs.Rules.{differ}
+use Rattle.saved_spec.specs.RunShapes.{store_among, stores_in_order}
 use Rattle.saved_stores.proofs.Comparing.{both}
 
 -- Tests of all stores

@@ -5,20 +5,20 @@ use Rattle.std.specs.List.{All, list_all}
 use Rattle.std.specs.Option.{option_map_or}
 use Rattle.std.specs.Fmt.{char_count}
 use Rattle.std.proofs.lemmas.List.Elements.{All-nil, All-cons, All-head, All-tail}
-use Rattle.script_machine.specs.BubbleText.{most_characters}
-use Rattle.script_machine.specs.declared.instance.Instance.{Instance}
-use Rattle.script_machine.specs.declared.records.TargetRecord.{TargetRecord}
-use Rattle.script_machine.specs.Program.{no_target}
-use Rattle.script_machine.specs.Stores.{record_of}
+use Rattle.machine_spec.specs.BubbleText.{most_characters}
+use Rattle.machine_spec.specs.declared.instance.Instance.{Instance}
+use Rattle.machine_spec.specs.declared.records.TargetRecord.{TargetRecord}
+use Rattle.machine_spec.specs.Program.{no_target}
+use Rattle.machine_spec.specs.Stores.{record_of}
 use Rattle.project_check.specs.Counts.{block_count}
 use Rattle.project_check.specs.Kept.{IsDressed}
 use Rattle.project_check.specs.Loaded.{tables_of}
 use Rattle.project_check.specs.declared.project.Project.{Project}
 use Rattle.saved_parts.specs.declared.instances.ToldInstance.{ToldInstance}
 use Rattle.saved_parts.specs.Telling.{instance_of, store_of}
-use Rattle.saved_rules.specs.Basis.{Basis, basis_of, records_of, is_edge}
-use Rattle.saved_rules.specs.Rules.{is_original, is_sprite, is_clone, has_short_texts}
-use Rattle.saved_rules.specs.RunShapes.{Told}
+use Rattle.saved_spec.specs.Basis.{Basis, basis_of, records_of, is_edge}
+use Rattle.saved_spec.specs.Rules.{is_original, is_sprite, is_clone, has_short_texts}
+use Rattle.saved_spec.specs.RunShapes.{Told}
 use Rattle.saved_stores.specs.Held.{IsHeld, is_numbered}
 use Rattle.saved_stores.proofs.Hats.{edge_within}
 use Rattle.saved_stores.proofs.Comparing.{both, below, below_is, at_most}

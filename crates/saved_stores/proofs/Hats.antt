@@ -6,17 +6,17 @@ use Rattle.std.proofs.lemmas.Bool.Decides.{nat_tests}
 use Rattle.std.proofs.lemmas.List.Sums.{sum_by-cons}
 use Rattle.opcode_table.specs.Kinds.{hat_kind}
 use Rattle.opcode_table.specs.declared.shape.Role.TheVariants as role
-use Rattle.script_machine.specs.Frame.{is_edge_hat}
-use Rattle.script_machine.specs.Script.{op_of}
-use Rattle.script_machine.specs.Program.{Head}
-use Rattle.project_file.specs.declared.blocks.Block.{Block}
-use Rattle.project_file.specs.Linked.{has_role, is_head}
-use Rattle.project_file.specs.Trees.{Sheet, head_of, hat_at, heads_of}
+use Rattle.machine_spec.specs.Frame.{is_edge_hat}
+use Rattle.machine_spec.specs.Script.{op_of}
+use Rattle.machine_spec.specs.Program.{Head}
+use Rattle.project_spec.specs.declared.blocks.Block.{Block}
+use Rattle.project_spec.specs.Linked.{has_role, is_head}
+use Rattle.project_spec.specs.Trees.{Sheet, head_of, hat_at, heads_of}
 use Rattle.project_check.specs.Counts.{block_count}
 use Rattle.project_check.specs.Loaded.{tables_of, blocks_at, sheet_at}
 use Rattle.project_check.specs.declared.project.Project.{Project}
 use Rattle.project_check.proofs.Defining.{scripts_here}
-use Rattle.saved_rules.specs.Basis.{basis_of, is_edge, is_edge_head}
+use Rattle.saved_spec.specs.Basis.{basis_of, is_edge, is_edge_head}
 use Rattle.saved_stores.proofs.Comparing.{both}
 
 one_of : (sheet : Sheet) (n m : ℕ) (b : Block) (t r : Bool) (k : ℕ) (hs : List Head) → n < m → (list_any (is_edge_head k) hs ≡ true → k < m)

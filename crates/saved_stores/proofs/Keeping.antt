@@ -4,7 +4,7 @@ use Rattle.std.specs.Prelude.{nat_le, not, find, option_map, unsigned_abs, if◌
 use Rattle.std.specs.List.{All, list_all}
 use Rattle.std.proofs.lemmas.List.Elements.{All-nil, All-cons}
 use Rattle.scratch_values.specs.declared.value.Value.{Value}
-use Rattle.script_machine.specs.declared.variables.Store.{Store}
+use Rattle.machine_spec.specs.declared.variables.Store.{Store}
 use Rattle.variables.specs.Kept.{IsShort, HasShortLists}
 use Rattle.variables.specs.Distinct.{numbers}
 use Rattle.variables.specs.Parts.{AreStores}
@@ -14,9 +14,9 @@ use Rattle.saved_parts.specs.declared.run.ToldMade.{ToldMade}
 use Rattle.saved_parts.specs.declared.run.ToldQuestion.{ToldQuestion}
 use Rattle.saved_parts.specs.declared.run.ToldRun.{ToldRun}
 use Rattle.saved_parts.specs.Telling.{instance_of, store_of, made_of, question_of, told_of}
-use Rattle.saved_rules.specs.Basis.{Basis, basis_of, records_of}
-use Rattle.saved_rules.specs.RunShapes.{Told, stores_in_order}
-use Rattle.saved_rules.specs.Rules.{Rule, rules, broken, differ, is_next, is_shown, is_value_text, has_short_texts, mouse_is_on_stage, next_are_counted, made_monitors_show, clones_are_sprites, costumes_are_there, lists_are_short, answer_is_short, instances_say_little, questions_are_short, edges_are_hats}
+use Rattle.saved_spec.specs.Basis.{Basis, basis_of, records_of}
+use Rattle.saved_spec.specs.RunShapes.{Told, stores_in_order}
+use Rattle.saved_spec.specs.Rules.{Rule, rules, broken, differ, is_next, is_shown, is_value_text, has_short_texts, mouse_is_on_stage, next_are_counted, made_monitors_show, clones_are_sprites, costumes_are_there, lists_are_short, answer_is_short, instances_say_little, questions_are_short, edges_are_hats}
 use Rattle.saved_stores.specs.Held.{AreDevices, AreHeld, is_of}
 use Rattle.saved_stores.specs.Stores.{parts_of, KeepRules}
 use Rattle.saved_stores.specs.declared.told.ToldStores.{ToldStores}

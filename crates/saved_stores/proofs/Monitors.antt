@@ -1,12 +1,12 @@
 -- What a monitor that blocks added shows is there.
 use Rattle.std.proofs.Common.{◌≡◌, ℕ, zero, suc, ◌<◌, ◌^◌, Bool, true, false, List, [], ◌∷◌, length, Some, refl, ap, arith}
 use Rattle.std.specs.Prelude.{slice_get, unwrap_or}
-use Rattle.script_machine.specs.declared.records.TargetRecord.{TargetRecord}
-use Rattle.script_machine.specs.Program.{no_target, record_at}
+use Rattle.machine_spec.specs.declared.records.TargetRecord.{TargetRecord}
+use Rattle.machine_spec.specs.Program.{no_target, record_at}
 use Rattle.target_records.specs.Held.{IsSmall}
 use Rattle.saved_parts.specs.Telling.{shown_of}
-use Rattle.saved_rules.specs.Basis.{Basis, records_of}
-use Rattle.saved_rules.specs.Rules.{is_shown}
+use Rattle.saved_spec.specs.Basis.{Basis, records_of}
+use Rattle.saved_spec.specs.Rules.{is_shown}
 use Rattle.saved_stores.proofs.Comparing.{below}
 
 -- a target with something in it is there

@@ -9,8 +9,8 @@ use denote.Ref.{Bor}
 use denote.Param.Members.{Mut}
 use Rattle.std.proofs.lemmas.Bool.{cases_lt}
 use Rattle.std.proofs.lemmas.Bool.Decides.{nat_tests}
-use Rattle.script_machine.specs.declared.variables.Store.{Store}
-use Rattle.saved_rules.specs.RunShapes.{store_among, stores_in_order}
+use Rattle.machine_spec.specs.declared.variables.Store.{Store}
+use Rattle.saved_spec.specs.RunShapes.{store_among, stores_in_order}
 
 -- its number is this
 abbrev has : ℕ → Store → Bool

@@ -1,13 +1,13 @@
 -- What is needed of the parts of a text for the stores to be made of them; private functions alone cite it.
 use Rattle.std.specs.Prelude.{◌≡◌, ℕ, ◌<◌, ◌≤◌, ◌^◌, nat_lt, unsigned_abs, Bool, true}
 use Rattle.std.specs.List.{All, list_all}
-use Rattle.script_machine.specs.BubbleText.{IsShort}
+use Rattle.machine_spec.specs.BubbleText.{IsShort}
 use Rattle.variables.specs.Parts.{AreStores}
 use Rattle.saved_parts.specs.declared.instances.ToldInstance.{ToldInstance}
 use Rattle.saved_parts.specs.declared.run.ToldMade.{ToldMade}
 use Rattle.saved_parts.specs.Telling.{shown_of, store_of}
-use Rattle.saved_rules.specs.Basis.{Basis}
-use Rattle.saved_rules.specs.Rules.{has_short_texts, is_shown, is_value_text}
+use Rattle.saved_spec.specs.Basis.{Basis}
+use Rattle.saved_spec.specs.Rules.{has_short_texts, is_shown, is_value_text}
 use Rattle.saved_stores.specs.declared.told.ToldDevices.{ToldDevices}
 use Rattle.saved_stores.specs.declared.told.ToldStores.{ToldStores}
 use Rattle.saved_stores.specs.Stores.{variables_in}

@@ -1,13 +1,13 @@
 -- The stores that the parts of a text tell.
 use Rattle.std.specs.Prelude.{◌≡◌, List, map, filter_map, None}
-use Rattle.script_machine.specs.ScriptText.{key_of_rest}
-use Rattle.script_machine.specs.Stores.{Variables, Devices}
-use Rattle.script_machine.specs.declared.instance.Instance.{Instance}
+use Rattle.machine_spec.specs.ScriptText.{key_of_rest}
+use Rattle.machine_spec.specs.Stores.{Variables, Devices}
+use Rattle.machine_spec.specs.declared.instance.Instance.{Instance}
 use Rattle.saved_parts.specs.declared.run.ToldRun.{ToldRun}
 use Rattle.saved_parts.specs.Telling.{instance_of, store_of, made_of, question_of, told_of}
-use Rattle.saved_rules.specs.Basis.{Basis}
-use Rattle.saved_rules.specs.RunShapes.{stores_in_order}
-use Rattle.saved_rules.specs.Rules.{broken}
+use Rattle.saved_spec.specs.Basis.{Basis}
+use Rattle.saved_spec.specs.RunShapes.{stores_in_order}
+use Rattle.saved_spec.specs.Rules.{broken}
 use Rattle.saved_stores.specs.declared.told.ToldDevices.{ToldDevices}
 use Rattle.saved_stores.specs.declared.told.ToldStores.{ToldStores}
 

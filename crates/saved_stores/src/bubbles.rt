@@ -3,12 +3,12 @@
 ghost use Rattle.std.specs.Prelude.{◌≡◌, ◌≤◌, true, IfOk};
 ghost use Rattle.std.specs.Fmt.{char_count};
 ghost use Rattle.std.specs.List.{list_all};
-ghost use Rattle.script_machine.specs.BubbleText.{IsShort};
+ghost use Rattle.machine_spec.specs.BubbleText.{IsShort};
 ghost use Rattle.saved_parts.specs.Telling.{bubble_of};
 ghost use Rattle.saved_stores.specs.Held.{is_numbered};
 
+use machine_spec::{BlockId, Bubble, BubbleText, Edges};
 use saved_parts::{ToldBubble, ToldEdges};
-use script_machine::{BlockId, Bubble, BubbleText, Edges};
 use std::alloc::{AllocError, Global};
 
 // The bubble that is told, whose text is short enough. The only error is want of memory.

@@ -7,8 +7,8 @@ ghost use Rattle.saved_stores.specs.Held.{IsHeld};
 
 use crate::bubbles::{bubble, edges};
 use crate::values::{lists, values};
+use machine_spec::{Instance, InstanceId, Store, TargetId};
 use saved_parts::{ToldInstance, ToldInstances};
-use script_machine::{Instance, InstanceId, Store, TargetId};
 use std::alloc::{AllocError, Global};
 
 // An instance, and its variables and lists.

@@ -1,11 +1,11 @@
 //! Keys that are held.
 
 ghost use Rattle.std.specs.Prelude.{◌≡◌, ◌++◌, chars, filter_map, option_to_list, IfOk, OnOk};
-ghost use Rattle.script_machine.specs.ScriptText.{one_key, key_of_rest};
-ghost use Rattle.script_machine.specs.Sensing.{key_named};
+ghost use Rattle.machine_spec.specs.ScriptText.{one_key, key_of_rest};
+ghost use Rattle.machine_spec.specs.Sensing.{key_named};
 
+use machine_spec::{Key, Keys};
 use saved_parts::ToldKeys;
-use script_machine::{Key, Keys};
 use std::alloc::{AllocError, Global};
 
 // The key of a name.

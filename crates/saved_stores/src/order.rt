@@ -1,9 +1,9 @@
 //! Stores in order.
 
 ghost use Rattle.std.specs.Prelude.{◌≡◌, IfOk};
-ghost use Rattle.saved_rules.specs.RunShapes.{stores_in_order};
+ghost use Rattle.saved_spec.specs.RunShapes.{stores_in_order};
 
-use script_machine::Store;
+use machine_spec::Store;
 use std::alloc::AllocError;
 
 // The stores by the numbers of their instances, rising. The only error is want of memory.

@@ -3,11 +3,11 @@
 ghost use Rattle.std.specs.Prelude.{◌≡◌, true, map, IfOk};
 ghost use Rattle.std.specs.List.{list_all};
 ghost use Rattle.saved_parts.specs.Telling.{question_of};
-ghost use Rattle.saved_rules.specs.Rules.{is_value_text};
+ghost use Rattle.saved_spec.specs.Rules.{is_value_text};
 
+use machine_spec::{InstanceId, Question, Questions, Serial};
 use saved_parts::{ToldQuestion, ToldQuestions};
 use scratch_values::BoundText;
-use script_machine::{InstanceId, Question, Questions, Serial};
 use std::alloc::{AllocError, Global};
 
 // The question that is told, whose text is short enough.

@@ -3,12 +3,12 @@
 ghost use Rattle.std.specs.Prelude.{◌≡◌, true, map, IfOk};
 ghost use Rattle.std.specs.List.{list_all};
 ghost use Rattle.saved_parts.specs.Telling.{shown_of, made_of};
-ghost use Rattle.saved_rules.specs.Basis.{basis_of};
+ghost use Rattle.saved_spec.specs.Basis.{basis_of};
 ghost use Rattle.saved_stores.specs.Held.{is_of};
 
+use machine_spec::{Made, MadeList, Shown, TargetId};
 use project_check::Project;
 use saved_parts::{ToldMade, ToldMadeList};
-use script_machine::{Made, MadeList, Shown, TargetId};
 use std::alloc::{AllocError, Global};
 
 // What the monitor shows, a variable or list that its target has.

@@ -3,7 +3,7 @@
 ghost use Rattle.std.specs.Prelude.{◌≡◌, true, map, IfOk};
 ghost use Rattle.std.specs.List.{list_all};
 ghost use Rattle.saved_parts.specs.Telling.{value_of};
-ghost use Rattle.saved_rules.specs.Rules.{is_short};
+ghost use Rattle.saved_spec.specs.Rules.{is_short};
 
 use saved_parts::{ToldLists, ToldValue, ToldValues};
 use scratch_values::{BoundText, Value, ValueLists, Values};

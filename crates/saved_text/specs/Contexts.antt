@@ -2,13 +2,13 @@
 use Rattle.std.specs.Prelude.{ℕ, List, [], ◌∷◌, codes, Bool, true, false}
 use Rattle.serde_json.specs.Data.{Data, null, string}
 use Rattle.scratch_values.specs.declared.value.Value.{Value}
-use Rattle.script_machine.specs.declared.threads.Count.{Count}
-use Rattle.script_machine.specs.declared.threads.Count.TheVariants.{Whole, Infinite}
-use Rattle.script_machine.specs.declared.threads.WaitState.{WaitState}
-use Rattle.script_machine.specs.declared.threads.GlideState.{GlideState}
-use Rattle.script_machine.specs.declared.threads.Context.{Context}
-use Rattle.script_machine.specs.declared.threads.Context.TheVariants.{Fresh, Repeat, Wait, Glide, Started, Asked, Spoken, Called}
-use Rattle.script_machine.specs.Threads.{Params}
+use Rattle.machine_spec.specs.declared.threads.Count.{Count}
+use Rattle.machine_spec.specs.declared.threads.Count.TheVariants.{Whole, Infinite}
+use Rattle.machine_spec.specs.declared.threads.WaitState.{WaitState}
+use Rattle.machine_spec.specs.declared.threads.GlideState.{GlideState}
+use Rattle.machine_spec.specs.declared.threads.Context.{Context}
+use Rattle.machine_spec.specs.declared.threads.Context.TheVariants.{Fresh, Repeat, Wait, Glide, Started, Asked, Spoken, Called}
+use Rattle.machine_spec.specs.Threads.{Params}
 use Rattle.saved_text.specs.Rows.{whole, signed, row, word_row, each}
 use Rattle.saved_text.specs.Values.{num, value}
 

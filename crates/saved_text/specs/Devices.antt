@@ -1,11 +1,11 @@
 -- Keys, questions and bubble timers of a saved run (docs/formats.md, section 5).
 use Rattle.std.specs.Prelude.{◌∷◌, []}
 use Rattle.serde_json.specs.Data.{Data, boolean, string}
-use Rattle.script_machine.specs.Line.{key_name}
-use Rattle.script_machine.specs.declared.devices.Key.{Key}
-use Rattle.script_machine.specs.declared.devices.Question.{Question}
-use Rattle.script_machine.specs.declared.devices.BubbleTimer.{BubbleTimer}
-use Rattle.script_machine.specs.Stores.{Devices}
+use Rattle.machine_spec.specs.Line.{key_name}
+use Rattle.machine_spec.specs.declared.devices.Key.{Key}
+use Rattle.machine_spec.specs.declared.devices.Question.{Question}
+use Rattle.machine_spec.specs.declared.devices.BubbleTimer.{BubbleTimer}
+use Rattle.machine_spec.specs.Stores.{Devices}
 use Rattle.saved_text.specs.Rows.{whole, signed, row}
 use Rattle.saved_text.specs.Values.{num}
 

@@ -1,14 +1,14 @@
 -- The instances of a saved run (docs/formats.md, section 5), each with the values and lists of its store.
 use Rattle.std.specs.Prelude.{ℕ, List, [], ◌∷◌, codes, map, Bool, slice_get, unwrap_or}
 use Rattle.serde_json.specs.Data.{Data, boolean, string}
-use Rattle.script_machine.specs.declared.bubble.Say.{Say}
-use Rattle.script_machine.specs.declared.bubble.Say.TheVariants as kind
-use Rattle.script_machine.specs.declared.bubble.Bubble.{Bubble}
-use Rattle.script_machine.specs.declared.instance.Instance.{Instance}
-use Rattle.script_machine.specs.declared.instance.Style.{Style}
-use Rattle.script_machine.specs.declared.instance.Style.TheVariants.{AllAround, LeftRight, DontRotate}
-use Rattle.script_machine.specs.declared.variables.Store.{Store}
-use Rattle.script_machine.specs.Stores.{store_at}
+use Rattle.machine_spec.specs.declared.bubble.Say.{Say}
+use Rattle.machine_spec.specs.declared.bubble.Say.TheVariants as kind
+use Rattle.machine_spec.specs.declared.bubble.Bubble.{Bubble}
+use Rattle.machine_spec.specs.declared.instance.Instance.{Instance}
+use Rattle.machine_spec.specs.declared.instance.Style.{Style}
+use Rattle.machine_spec.specs.declared.instance.Style.TheVariants.{AllAround, LeftRight, DontRotate}
+use Rattle.machine_spec.specs.declared.variables.Store.{Store}
+use Rattle.machine_spec.specs.Stores.{store_at}
 use Rattle.scratch_number.specs.declared.number.Num.{Num}
 use Rattle.scratch_values.specs.Casts.{zero_number}
 use Rattle.scratch_values.specs.declared.value.Value.{Value}

@@ -1,9 +1,9 @@
 -- Laws of the saved run, as statements that public functions with empty bodies prove.
 use Rattle.std.specs.Prelude.{◌≡◌, ℕ, false, List}
 use Rattle.std.specs.List.{All}
-use Rattle.script_machine.specs.Threads.{is_done}
-use Rattle.script_machine.specs.World.{World, seen_world}
-use Rattle.project_file.specs.Trees.{Sheet}
+use Rattle.machine_spec.specs.Threads.{is_done}
+use Rattle.machine_spec.specs.World.{World, seen_world}
+use Rattle.project_spec.specs.Trees.{Sheet}
 use Rattle.thread_frames.specs.Fit.{Fits}
 use Rattle.thread_frames.specs.Reading as reading
 use Rattle.thread_frames.specs.Threads.{Thread}

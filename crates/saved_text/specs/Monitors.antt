@@ -1,9 +1,9 @@
 -- The monitors of a saved run that blocks added (docs/formats.md, section 5).
 use Rattle.std.specs.Prelude.{◌∷◌, [], codes}
 use Rattle.serde_json.specs.Data.{Data, boolean, string}
-use Rattle.script_machine.specs.declared.variables.Made.{Made}
-use Rattle.script_machine.specs.declared.variables.Shown.{Shown}
-use Rattle.script_machine.specs.declared.variables.Shown.TheVariants.{Variable, List as Items}
+use Rattle.machine_spec.specs.declared.variables.Made.{Made}
+use Rattle.machine_spec.specs.declared.variables.Shown.{Shown}
+use Rattle.machine_spec.specs.declared.variables.Shown.TheVariants.{Variable, List as Items}
 use Rattle.std.specs.Prelude.{Bool}
 use Rattle.saved_text.specs.Rows.{whole, row}
 

@@ -8,27 +8,27 @@ use Rattle.scratch_number.specs.Number.{IsWithin}
 use Rattle.scratch_values.specs.Longest.{longest}
 use Rattle.scratch_values.specs.declared.value.Value.{Value}
 use Rattle.scratch_values.specs.declared.value.Value.TheVariants.{Number, Truth, Text}
-use Rattle.script_machine.specs.declared.bubble.Bubble.{Bubble}
-use Rattle.script_machine.specs.declared.devices.BubbleTimer.{BubbleTimer}
-use Rattle.script_machine.specs.declared.devices.Key.{Key}
-use Rattle.script_machine.specs.declared.devices.Key.TheVariants.{Space, Enter, Left, Right, Up, Down, One}
-use Rattle.script_machine.specs.declared.devices.Question.{Question}
-use Rattle.script_machine.specs.declared.instance.Instance.{Instance}
-use Rattle.script_machine.specs.declared.threads.Context.{Context}
-use Rattle.script_machine.specs.declared.threads.Context.TheVariants.{Fresh, Repeat, Wait, Glide, Started, Asked, Spoken, Called}
-use Rattle.script_machine.specs.declared.threads.Count.{Count}
-use Rattle.script_machine.specs.declared.threads.Count.TheVariants.{Whole, Infinite}
-use Rattle.script_machine.specs.declared.threads.GlideState.{GlideState}
-use Rattle.script_machine.specs.declared.threads.WaitState.{WaitState}
-use Rattle.script_machine.specs.declared.variables.Made.{Made}
-use Rattle.script_machine.specs.declared.variables.Shown.{Shown}
-use Rattle.script_machine.specs.declared.variables.Shown.TheVariants.{Variable, List as Items}
-use Rattle.script_machine.specs.declared.variables.Store.{Store}
-use Rattle.script_machine.specs.Pending.{Item, Do, Held, Returned, Branch, Again, Back}
-use Rattle.script_machine.specs.Script.{Statement, place_of}
-use Rattle.script_machine.specs.Stores.{Devices, store_at}
-use Rattle.script_machine.specs.Tasks.{Task}
-use Rattle.script_machine.specs.Threads.{Params}
+use Rattle.machine_spec.specs.declared.bubble.Bubble.{Bubble}
+use Rattle.machine_spec.specs.declared.devices.BubbleTimer.{BubbleTimer}
+use Rattle.machine_spec.specs.declared.devices.Key.{Key}
+use Rattle.machine_spec.specs.declared.devices.Key.TheVariants.{Space, Enter, Left, Right, Up, Down, One}
+use Rattle.machine_spec.specs.declared.devices.Question.{Question}
+use Rattle.machine_spec.specs.declared.instance.Instance.{Instance}
+use Rattle.machine_spec.specs.declared.threads.Context.{Context}
+use Rattle.machine_spec.specs.declared.threads.Context.TheVariants.{Fresh, Repeat, Wait, Glide, Started, Asked, Spoken, Called}
+use Rattle.machine_spec.specs.declared.threads.Count.{Count}
+use Rattle.machine_spec.specs.declared.threads.Count.TheVariants.{Whole, Infinite}
+use Rattle.machine_spec.specs.declared.threads.GlideState.{GlideState}
+use Rattle.machine_spec.specs.declared.threads.WaitState.{WaitState}
+use Rattle.machine_spec.specs.declared.variables.Made.{Made}
+use Rattle.machine_spec.specs.declared.variables.Shown.{Shown}
+use Rattle.machine_spec.specs.declared.variables.Shown.TheVariants.{Variable, List as Items}
+use Rattle.machine_spec.specs.declared.variables.Store.{Store}
+use Rattle.machine_spec.specs.Pending.{Item, Do, Held, Returned, Branch, Again, Back}
+use Rattle.machine_spec.specs.Script.{Statement, place_of}
+use Rattle.machine_spec.specs.Stores.{Devices, store_at}
+use Rattle.machine_spec.specs.Tasks.{Task}
+use Rattle.machine_spec.specs.Threads.{Params}
 use Rattle.thread_frames.specs.declared.level.Level.{Level}
 use Rattle.thread_frames.specs.Reading.{params_in}
 use Rattle.thread_frames.specs.Threads.{Thread}

@@ -3,9 +3,9 @@ use Rattle.std.specs.Prelude.{ℕ, List, [], ◌∷◌, codes}
 use Rattle.hex.specs.Hex.{encode_lower}
 use Rattle.serde_json.specs.Data.{Data, boolean, string}
 use Rattle.serde_json.specs.Written.{compact_text}
-use Rattle.script_machine.specs.declared.instance.Instance.{Instance}
-use Rattle.script_machine.specs.Stores.{Devices, Variables}
-use Rattle.script_machine.specs.World.{World}
+use Rattle.machine_spec.specs.declared.instance.Instance.{Instance}
+use Rattle.machine_spec.specs.Stores.{Devices, Variables}
+use Rattle.machine_spec.specs.World.{World}
 use Rattle.saved_text.specs.Rows.{whole, row, table, each}
 use Rattle.saved_text.specs.Instances.{instance}
 use Rattle.saved_text.specs.Monitors.{made}

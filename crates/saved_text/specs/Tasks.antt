@@ -2,10 +2,10 @@
 -- and each marker behind it a level under that: what follows the statement of a level up to the next marker is not written.
 use Rattle.std.specs.Prelude.{List, [], ◌∷◌, filter, map, reverse, Bool, true, false}
 use Rattle.serde_json.specs.Data.{Data, null}
-use Rattle.script_machine.specs.Script.{Statement, place_of}
-use Rattle.script_machine.specs.declared.threads.Context.TheVariants.{Called}
-use Rattle.script_machine.specs.Pending.{Item, Do, Held, Returned, Branch, Again, Back}
-use Rattle.script_machine.specs.Tasks.{Task}
+use Rattle.machine_spec.specs.Script.{Statement, place_of}
+use Rattle.machine_spec.specs.declared.threads.Context.TheVariants.{Called}
+use Rattle.machine_spec.specs.Pending.{Item, Do, Held, Returned, Branch, Again, Back}
+use Rattle.machine_spec.specs.Tasks.{Task}
 use Rattle.saved_text.specs.Rows.{whole, row}
 use Rattle.saved_text.specs.Contexts.{context}
 use Rattle.saved_text.specs.Threads.{thread_of}

@@ -2,8 +2,8 @@
 -- what its block keeps, and its warp flag is not written at all.
 use Rattle.std.specs.Prelude.{ℕ, List, [], ◌∷◌, codes, reverse, Option, Some, None}
 use Rattle.serde_json.specs.Data.{Data, null, string}
-use Rattle.script_machine.specs.declared.threads.Status.{Status}
-use Rattle.script_machine.specs.declared.threads.Status.TheVariants.{Running, YieldTick, PromiseWait, Done}
+use Rattle.machine_spec.specs.declared.threads.Status.{Status}
+use Rattle.machine_spec.specs.declared.threads.Status.TheVariants.{Running, YieldTick, PromiseWait, Done}
 use Rattle.thread_frames.specs.declared.level.Level.{Level}
 use Rattle.thread_frames.specs.Reading.{params_in}
 use Rattle.thread_frames.specs.Threads.{Thread}

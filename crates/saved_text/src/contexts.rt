@@ -7,9 +7,9 @@ ghost use Rattle.saved_text.specs.Contexts as saved;
 ghost use Rattle.saved_text.specs.Ranges as range;
 
 use crate::rows::{Saved, send_each, send_word};
+use machine_spec::{Context, Count, GlideState, Serial, WaitState};
 use project_json::Text;
 use scratch_values::Value;
-use script_machine::{Context, Count, GlideState, Serial, WaitState};
 use serde::Serializer;
 
 impl Saved for Count {

@@ -4,7 +4,7 @@ ghost use Rattle.saved_text.specs.Ranges as range;
 ghost use Rattle.saved_text.specs.Rows.{whole};
 
 use crate::rows::Saved;
-use script_machine::{BlockId, InstanceId, Serial, TargetId};
+use machine_spec::{BlockId, InstanceId, Serial, TargetId};
 use serde::Serializer;
 
 impl Saved for TargetId {

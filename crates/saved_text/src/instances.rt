@@ -4,16 +4,16 @@ ghost use Rattle.std.specs.Prelude.{◌≡◌, ◌==◌, [], find, length, OnOk,
 ghost use Rattle.std.specs.List.{All};
 ghost use Rattle.std.specs.Option.{option_copied};
 ghost use Rattle.serde_json.specs.Events.{SendsValue};
-ghost use Rattle.script_machine.specs.Stores.{store_at};
+ghost use Rattle.machine_spec.specs.Stores.{store_at};
 ghost use Rattle.saved_text.specs.Instances as saved;
 ghost use Rattle.saved_text.specs.Ranges as range;
 ghost use Rattle.saved_text.specs.Rows.{whole, each};
 ghost use Rattle.saved_text.specs.Values.{num};
 
 use crate::rows::{Saved, send_each, send_list, send_member};
+use machine_spec::{BlockId, Bubble, Effect, Effects, Instance, InstanceId, Say, Store, Style};
 use scratch_number::Num;
 use scratch_values::{Value, Values};
-use script_machine::{BlockId, Bubble, Effect, Effects, Instance, InstanceId, Say, Store, Style};
 use serde::Serializer;
 
 fn say_name(kind: Say) -> &'static str

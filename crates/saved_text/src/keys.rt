@@ -8,7 +8,7 @@ ghost use Rattle.saved_text.specs.Devices.{key};
 ghost use Rattle.saved_text.specs.Ranges as range;
 
 use crate::rows::Saved;
-use script_machine::Key;
+use machine_spec::Key;
 use serde::Serializer;
 
 // Sends the text of one character.

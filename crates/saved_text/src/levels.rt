@@ -11,9 +11,9 @@ ghost use Rattle.thread_frames.specs.Reading.{params_in};
 
 use crate::contexts::send_context;
 use crate::rows::{Saved, send_member};
+use machine_spec::{BlockId, InstanceId, Serial, Status, Which};
 use project_json::Text;
 use scratch_values::Value;
-use script_machine::{BlockId, InstanceId, Serial, Status, Which};
 use serde::Serializer;
 use thread_frames::{Level, Levels, Thread, Threads};
 

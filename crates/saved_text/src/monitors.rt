@@ -8,7 +8,7 @@ ghost use Rattle.saved_text.specs.Ranges as range;
 ghost use Rattle.saved_text.specs.Rows.{whole, row};
 
 use crate::rows::Saved;
-use script_machine::{Made, Shown, TargetId};
+use machine_spec::{Made, Shown, TargetId};
 use serde::Serializer;
 
 // Sends what is shown, by the name of its kind.

@@ -11,7 +11,7 @@ ghost use Rattle.saved_text.specs.Threads.{thread};
 use crate::instances::send_instances;
 use crate::rows::{Saved, send_list, send_member};
 use devices::Devices;
-use script_machine::{Instance, Made, Store};
+use machine_spec::{Instance, Made, Store};
 use serde::{Described, Serialize, Serializer};
 use thread_frames::Threads;
 

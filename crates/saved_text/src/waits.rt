@@ -4,7 +4,7 @@ ghost use Rattle.saved_text.specs.Devices.{question, timer};
 ghost use Rattle.saved_text.specs.Ranges as range;
 
 use crate::rows::Saved;
-use script_machine::{BubbleTimer, Question};
+use machine_spec::{BubbleTimer, Question};
 use serde::Serializer;
 
 impl Saved for Question {

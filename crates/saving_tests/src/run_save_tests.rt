@@ -3,12 +3,12 @@
 ghost use Rattle.std.specs.Prelude.{◌≡◌};
 ghost use Rattle.sequencer.specs.Runs.{IsRunOf};
 
+use machine_spec::{Budget, InstanceId};
 use project_check::Project;
 use rand_pcg::Pcg32;
 use run_save::{load, save};
-use saved_rules::SaveRefusal;
+use saved_spec::SaveRefusal;
 use scratch_number::{Num, of_whole};
-use script_machine::{Budget, InstanceId};
 use sequencer::Run;
 use std::alloc::{AllocError, Global};
 use std::process::Abort;

@@ -1,6 +1,7 @@
 //! Runs of a stage and a cat that keep all rules, but for one.
 
 use lists::ListOf;
+use machine_spec::{BubbleTimer, Effects, InstanceId, Say, Serial, Status, Style};
 use project_check::{Project, load};
 use project_json::Text;
 use saved_checks::broken_rule;
@@ -9,7 +10,6 @@ use saved_parts::{
     ToldRun, ToldThread, ToldValue,
 };
 use scratch_number::of_whole;
-use script_machine::{BubbleTimer, Effects, InstanceId, Say, Serial, Status, Style};
 use std::process::Abort;
 
 static PROJECT: &str = r#"{"targets":[

@@ -1,6 +1,6 @@
 //! A plain value and its compact text, as serde_json reads and writes them.
 
-use saved_json::{a_compact_text_is_utf8, a_compact_text_reads_back};
+use laws_of_json::{a_compact_text_is_utf8, a_compact_text_reads_back};
 use serde_json::Value;
 
 // The least and the greatest whole numbers, names in their order, an escape, and a character of two bytes.

@@ -3,16 +3,16 @@
 ghost use Rattle.std.specs.Prelude.{◌≡◌, true, IfOk};
 ghost use Rattle.std.specs.List.{list_all};
 ghost use Rattle.saved_parts.specs.Telling.{thread_of};
-ghost use Rattle.saved_rules.specs.Rules.{is_short, values_kept};
+ghost use Rattle.saved_spec.specs.Rules.{is_short, values_kept};
 
+use machine_spec::{
+    BlockId, BubbleTimer, Context, Count, InstanceId, Serial, Status, TargetId, WaitState,
+};
 use project_check::{Project, load};
 use project_json::Text;
 use saved_levels::{Waiting, levels_of};
 use saved_parts::{ToldKept, ToldLevel, ToldLevels, ToldParam, ToldParams, ToldThread, ToldValue};
 use scratch_number::Num;
-use script_machine::{
-    BlockId, BubbleTimer, Context, Count, InstanceId, Serial, Status, TargetId, WaitState,
-};
 use std::alloc::{AllocError, Global};
 use std::process::Abort;
 use thread_frames::Level;

@@ -1,10 +1,10 @@
 //! A whole run, and the paths of runs that have another shape.
 
+use json_shapes::Fault;
+use machine_spec::{Count, Say, Status, Style};
 use saved_parts::{ToldInstance, ToldKept, ToldLevel, ToldRun, ToldValue};
 use saved_reading::read_run;
-use script_machine::{Count, Say, Status, Style};
 use serde_json::Value;
-use shapes::Fault;
 use std::alloc::Global;
 use std::process::Abort;
 

@@ -1,7 +1,7 @@
 //! What each refusal says in words.
 
 use project_json::Text;
-use saved_rules::SaveRefusal;
+use saved_spec::SaveRefusal;
 use std::alloc::{AllocError, AllocFailed, Global};
 
 fn digits(alloc: Global, digit: char) -> Result<Text, AllocError> {

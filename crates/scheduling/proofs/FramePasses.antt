@@ -5,16 +5,16 @@ use Rattle.std.specs.List.{All}
 use Rattle.std.proofs.lemmas.List.Elements.{All-nil, All-head, All-tail, All-cons}
 use Rattle.rand_core.specs.Stream.{Stream}
 use Rattle.script_words.specs.declared.stops.Stop.{Stop}
-use Rattle.script_machine.specs.Threads.{is_done}
-use Rattle.script_machine.specs.Places.{Places, Everyone}
-use Rattle.script_machine.specs.Outcome.{Outcome, Goes, then_do, StopIs}
-use Rattle.script_machine.specs.Program.{Program}
-use Rattle.script_machine.specs.Slice as slices
-use Rattle.script_machine.specs.Slice.{go_on, pass, most_slices, Passed}
-use Rattle.script_machine.specs.Frame as machine
-use Rattle.script_machine.specs.Frame.{passes, is_empty}
-use Rattle.script_machine.specs.Tasks.{Task}
-use Rattle.script_machine.specs.World.{World}
+use Rattle.machine_spec.specs.Threads.{is_done}
+use Rattle.machine_spec.specs.Places.{Places, Everyone}
+use Rattle.machine_spec.specs.Outcome.{Outcome, Goes, then_do, StopIs}
+use Rattle.machine_spec.specs.Program.{Program}
+use Rattle.machine_spec.specs.Slice as slices
+use Rattle.machine_spec.specs.Slice.{go_on, pass, most_slices, Passed}
+use Rattle.machine_spec.specs.Frame as machine
+use Rattle.machine_spec.specs.Frame.{passes, is_empty}
+use Rattle.machine_spec.specs.Tasks.{Task}
+use Rattle.machine_spec.specs.World.{World}
 use Rattle.thread_frames.specs.Fit.{Fits}
 use Rattle.thread_frames.specs.Reading.{task}
 use Rattle.thread_frames.specs.Threads.{Thread, without_done}

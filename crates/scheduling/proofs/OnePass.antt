@@ -2,17 +2,17 @@
 use Rattle.std.proofs.Common.{◌≡◌, ℕ, zero, suc, ◌+◌, ◌-◌, ◌<◌, ◌≤◌, List, [], ◌∷◌, length, map, drop, Bool, true, false, Option, Some, None, Err, refl, sym, ap, ◌∙◌, arith, add-one}
 use Rattle.std.specs.Prelude.{if◌then◌else◌, slice_get, ◌||◌}
 use Rattle.script_words.specs.declared.stops.Stop.{Stop}
-use Rattle.script_machine.specs.declared.threads.Status.{Status}
-use Rattle.script_machine.specs.declared.threads.Status.TheVariants.{Running, YieldTick, PromiseWait, Done}
-use Rattle.script_machine.specs.Threads.{is_done}
-use Rattle.script_machine.specs.Places.{Places}
-use Rattle.script_machine.specs.Outcome.{Outcome, Goes, then_do, StopIs}
-use Rattle.script_machine.specs.Program.{Program}
-use Rattle.script_machine.specs.Slice as machine
-use Rattle.script_machine.specs.Slice.{next_place, pass_on, pass, visit, Passed}
-use Rattle.script_machine.specs.Tasks.{Task}
-use Rattle.script_machine.specs.World.{World}
-use Rattle.project_file.specs.Trees.{Sheet}
+use Rattle.machine_spec.specs.declared.threads.Status.{Status}
+use Rattle.machine_spec.specs.declared.threads.Status.TheVariants.{Running, YieldTick, PromiseWait, Done}
+use Rattle.machine_spec.specs.Threads.{is_done}
+use Rattle.machine_spec.specs.Places.{Places}
+use Rattle.machine_spec.specs.Outcome.{Outcome, Goes, then_do, StopIs}
+use Rattle.machine_spec.specs.Program.{Program}
+use Rattle.machine_spec.specs.Slice as machine
+use Rattle.machine_spec.specs.Slice.{next_place, pass_on, pass, visit, Passed}
+use Rattle.machine_spec.specs.Tasks.{Task}
+use Rattle.machine_spec.specs.World.{World}
+use Rattle.project_spec.specs.Trees.{Sheet}
 use Rattle.thread_frames.specs.Reading.{task}
 use Rattle.thread_frames.specs.Threads.{Thread}
 use Rattle.executions.proofs.Stops.{stop-then, stop-same}

@@ -2,12 +2,12 @@
 use Rattle.std.proofs.Common.{◌≡◌, ℕ, zero, suc, ◌+◌, ◌-◌, ◌<◌, ◌≤◌, Bool, true, false, Option, Some, None, Err, refl, sym, ap, ◌∙◌, subst, arith}
 use Rattle.std.specs.Option.{option_map}
 use Rattle.script_words.specs.declared.stops.Stop.{Stop}
-use Rattle.script_machine.specs.declared.threads.Report.{Report}
-use Rattle.script_machine.specs.declared.threads.Report.TheVariants.{Go, Uncovered, Yielded, Ticked, Waits, Ended}
-use Rattle.script_machine.specs.Outcome.{Outcome, Goes, then_do, StopIs}
-use Rattle.script_machine.specs.Places.{Places, at_place, running}
-use Rattle.script_machine.specs.Slice.{go_on, is_late, counted_after, slice_goes_on, Executing, behind, slice_by, flag_of}
-use Rattle.project_file.specs.Trees.{Sheet}
+use Rattle.machine_spec.specs.declared.threads.Report.{Report}
+use Rattle.machine_spec.specs.declared.threads.Report.TheVariants.{Go, Uncovered, Yielded, Ticked, Waits, Ended}
+use Rattle.machine_spec.specs.Outcome.{Outcome, Goes, then_do, StopIs}
+use Rattle.machine_spec.specs.Places.{Places, at_place, running}
+use Rattle.machine_spec.specs.Slice.{go_on, is_late, counted_after, slice_goes_on, Executing, behind, slice_by, flag_of}
+use Rattle.project_spec.specs.Trees.{Sheet}
 use Rattle.thread_frames.specs.Levels.{warp_flag}
 use Rattle.thread_frames.specs.Reading.{task}
 use Rattle.thread_frames.specs.Threads.{Thread, levels_of}

@@ -3,14 +3,14 @@ use Rattle.std.proofs.Common.{◌≡◌, ℕ, Bool, true, false, List, [], ◌�
 use Rattle.std.specs.Prelude.{is_some}
 use Rattle.std.specs.Option.{option_map}
 use Rattle.rand_core.specs.Stream.{Stream}
-use Rattle.script_machine.specs.declared.threads.Which.{Which}
-use Rattle.script_machine.specs.declared.threads.Report.TheVariants.{Ended}
-use Rattle.script_machine.specs.Pending.{Item, gone}
-use Rattle.script_machine.specs.Places.{Places, at_place, place, put, on_place}
-use Rattle.script_machine.specs.Outcome.{Goes}
-use Rattle.script_machine.specs.Slice.{turn, turn_of, turn_by, slice, most_executions}
-use Rattle.project_file.specs.Trees.{Sheet}
-use Rattle.project_file.proofs.Unrolling.{held_at}
+use Rattle.machine_spec.specs.declared.threads.Which.{Which}
+use Rattle.machine_spec.specs.declared.threads.Report.TheVariants.{Ended}
+use Rattle.machine_spec.specs.Pending.{Item, gone}
+use Rattle.machine_spec.specs.Places.{Places, at_place, place, put, on_place}
+use Rattle.machine_spec.specs.Outcome.{Goes}
+use Rattle.machine_spec.specs.Slice.{turn, turn_of, turn_by, slice, most_executions}
+use Rattle.project_spec.specs.Trees.{Sheet}
+use Rattle.project_spec.proofs.Unrolling.{held_at}
 use Rattle.thread_frames.specs.declared.level.Level.{Level}
 use Rattle.thread_frames.specs.Levels.{top_block}
 use Rattle.thread_frames.specs.Fit.{Fits, IsHeld, LevelsFit, IsAtRest}

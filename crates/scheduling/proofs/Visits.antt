@@ -3,16 +3,16 @@ use Rattle.std.proofs.Common.{◌≡◌, ℕ, Bool, Option, Some, None, Err, ref
 use Rattle.std.specs.Option.{option_map}
 use Rattle.rand_core.specs.Stream.{Stream}
 use Rattle.script_words.specs.declared.stops.Stop.{Stop}
-use Rattle.script_machine.specs.declared.threads.Which.{Which}
-use Rattle.script_machine.specs.declared.threads.Which.TheVariants.{Slot}
-use Rattle.script_machine.specs.declared.threads.Status.TheVariants.{Running}
-use Rattle.script_machine.specs.Places.{Places, at_place, place, put, put_some, on_place, running, shown_by, Everyone}
-use Rattle.script_machine.specs.Outcome.{Outcome, Goes, then_do, StopIs}
-use Rattle.script_machine.specs.Slice as machine
-use Rattle.script_machine.specs.Slice.{turn, visit, woken, Passed}
-use Rattle.script_machine.specs.Tasks.{Task}
-use Rattle.script_machine.specs.World.{World}
-use Rattle.project_file.specs.Trees.{Sheet}
+use Rattle.machine_spec.specs.declared.threads.Which.{Which}
+use Rattle.machine_spec.specs.declared.threads.Which.TheVariants.{Slot}
+use Rattle.machine_spec.specs.declared.threads.Status.TheVariants.{Running}
+use Rattle.machine_spec.specs.Places.{Places, at_place, place, put, put_some, on_place, running, shown_by, Everyone}
+use Rattle.machine_spec.specs.Outcome.{Outcome, Goes, then_do, StopIs}
+use Rattle.machine_spec.specs.Slice as machine
+use Rattle.machine_spec.specs.Slice.{turn, visit, woken, Passed}
+use Rattle.machine_spec.specs.Tasks.{Task}
+use Rattle.machine_spec.specs.World.{World}
+use Rattle.project_spec.specs.Trees.{Sheet}
 use Rattle.thread_frames.specs.Fit.{Fits}
 use Rattle.thread_frames.specs.Reading.{task}
 use Rattle.thread_frames.specs.Threads.{Thread, with_status, without_detached}

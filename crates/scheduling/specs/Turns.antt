@@ -1,9 +1,9 @@
 -- Which threads get a turn, and when there are more of them; the contracts of private functions alone cite these.
 use Rattle.std.specs.Prelude.{◌≡◌, ℕ, Bool, false, not, ◌&&◌, ◌||◌, Option, Some, None, slice_get}
-use Rattle.script_machine.specs.Threads.{is_done, is_running}
-use Rattle.script_machine.specs.Places.{Places, running}
-use Rattle.script_machine.specs.Slice as machine
-use Rattle.script_machine.specs.Frame.{is_empty}
+use Rattle.machine_spec.specs.Threads.{is_done, is_running}
+use Rattle.machine_spec.specs.Places.{Places, running}
+use Rattle.machine_spec.specs.Slice as machine
+use Rattle.machine_spec.specs.Frame.{is_empty}
 use Rattle.thread_frames.specs.Threads.{Thread}
 use Rattle.project_check.specs.declared.project.Project.{Project}
 use Rattle.executions.specs.declared.state.State.{State}

@@ -1,8 +1,8 @@
 //! The passes of a frame.
 
 ghost use Rattle.std.specs.Prelude.{◌≡◌, true, IfOk};
-ghost use Rattle.script_machine.specs.Frame as machine;
-ghost use Rattle.script_machine.specs.Outcome.{Goes, StopIs};
+ghost use Rattle.machine_spec.specs.Frame as machine;
+ghost use Rattle.machine_spec.specs.Outcome.{Goes, StopIs};
 ghost use Rattle.project_check.specs.Loaded.{program_of};
 ghost use Rattle.executions.specs.Seen.{seen};
 ghost use Rattle.executions.specs.Resting.{IsIdle};

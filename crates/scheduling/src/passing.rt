@@ -1,9 +1,9 @@
 //! Visits of threads, and a pass over the thread list.
 
 ghost use Rattle.std.specs.Prelude.{◌≡◌, ◌<◌, ◌+◌, ◌^◌, ◌||◌, drop, slice_get, false, IfOk, IfSome};
-ghost use Rattle.script_machine.specs.Outcome.{Goes, StopIs};
-ghost use Rattle.script_machine.specs.Places.{running};
-ghost use Rattle.script_machine.specs.Slice as machine;
+ghost use Rattle.machine_spec.specs.Outcome.{Goes, StopIs};
+ghost use Rattle.machine_spec.specs.Places.{running};
+ghost use Rattle.machine_spec.specs.Slice as machine;
 ghost use Rattle.project_check.specs.declared.project.Project.{Project};
 ghost use Rattle.project_check.specs.Loaded.{program_of};
 ghost use Rattle.executions.specs.Seen.{seen, seen_threads};
@@ -13,8 +13,8 @@ ghost use Rattle.scheduling.specs.Turns.{IsAlive};
 
 use crate::slicing::turn;
 use executions::State;
+use machine_spec::{Status, Which};
 use project_check::Project;
-use script_machine::{Status, Which};
 use script_words::{Rng, Stop};
 use std::alloc::Global;
 use thread_frames::Threads;

@@ -1,9 +1,9 @@
 //! Slices of executions.
 
 ghost use Rattle.std.specs.Prelude.{◌≡◌, ◌≤◌, ◌<◌, ◌+◌, ◌^◌, IfOk, is_some};
-ghost use Rattle.script_machine.specs.Outcome.{Goes, StopIs};
-ghost use Rattle.script_machine.specs.Places.{at_place};
-ghost use Rattle.script_machine.specs.Slice as machine;
+ghost use Rattle.machine_spec.specs.Outcome.{Goes, StopIs};
+ghost use Rattle.machine_spec.specs.Places.{at_place};
+ghost use Rattle.machine_spec.specs.Slice as machine;
 ghost use Rattle.thread_frames.specs.Levels.{top_block};
 ghost use Rattle.thread_frames.specs.Threads.{levels_of};
 ghost use Rattle.thread_moves.specs.Standing.{is_ended as has_ended};
@@ -14,8 +14,8 @@ ghost use Rattle.executions.specs.Seen.{seen};
 ghost use Rattle.scheduling.specs.Turns.{CanTurn};
 
 use executions::{Runner, State};
+use machine_spec::{Report, Which};
 use project_check::Project;
-use script_machine::{Report, Which};
 use script_words::{Rng, Stop};
 use std::alloc::Global;
 use thread_frames::Threads;

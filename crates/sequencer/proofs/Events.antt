@@ -2,26 +2,26 @@
 use Rattle.std.proofs.Common.{◌≡◌, ℕ, Bool, true, false, List, [], ◌∷◌, Option, Some, None, refl, sym, ap, ◌∙◌, subst}
 use Rattle.std.specs.Prelude.{is_some, slice_get, codes, if◌then◌else◌, ◌==◌}
 use Rattle.script_words.specs.declared.stops.CounterKind.TheVariants as counter
-use Rattle.script_machine.specs.BubbleText.{cut}
-use Rattle.script_machine.specs.declared.bubble.Say.TheVariants as say
-use Rattle.script_machine.specs.declared.lines.Line.{Line}
-use Rattle.script_machine.specs.declared.lines.Line.TheVariants as line
-use Rattle.script_machine.specs.Outcome.{Outcome, Goes, Full, TooLong, Spent, then_do, IfGoes, with_number, last_number}
-use Rattle.script_machine.specs.Parts.{Scene, bubble_set, bubble_updated}
-use Rattle.script_machine.specs.ControlRows.{question_shown}
-use Rattle.script_machine.specs.Program.{Program}
-use Rattle.script_machine.specs.Starting.{Crowd, start_all, starts}
-use Rattle.script_machine.specs.Stopping.{bubble_emptied, first_taken, scene_of, with_scene}
-use Rattle.script_machine.specs.declared.bubble.Say.{Say}
-use Rattle.script_machine.specs.declared.devices.Key.{Key}
-use Rattle.script_machine.specs.declared.devices.Question.{Question}
-use Rattle.script_machine.specs.declared.instance.Instance.{Instance}
-use Rattle.script_machine.specs.Stores.{live, instance_at}
-use Rattle.script_machine.specs.Tasks.{Task, begun, tasks, resumed}
-use Rattle.script_machine.specs.declared.threads.Filter.{Filter}
-use Rattle.script_machine.specs.declared.threads.Filter.TheVariants.{Key as KeyHats, Flag, Clicked}
-use Rattle.script_machine.specs.Line.{started, key_name, with_key, with_keys, key_down, reset, clicked, with_answer, answered, after}
-use Rattle.script_machine.specs.World.{World}
+use Rattle.machine_spec.specs.BubbleText.{cut}
+use Rattle.machine_spec.specs.declared.bubble.Say.TheVariants as say
+use Rattle.machine_spec.specs.declared.lines.Line.{Line}
+use Rattle.machine_spec.specs.declared.lines.Line.TheVariants as line
+use Rattle.machine_spec.specs.Outcome.{Outcome, Goes, Full, TooLong, Spent, then_do, IfGoes, with_number, last_number}
+use Rattle.machine_spec.specs.Parts.{Scene, bubble_set, bubble_updated}
+use Rattle.machine_spec.specs.ControlRows.{question_shown}
+use Rattle.machine_spec.specs.Program.{Program}
+use Rattle.machine_spec.specs.Starting.{Crowd, start_all, starts}
+use Rattle.machine_spec.specs.Stopping.{bubble_emptied, first_taken, scene_of, with_scene}
+use Rattle.machine_spec.specs.declared.bubble.Say.{Say}
+use Rattle.machine_spec.specs.declared.devices.Key.{Key}
+use Rattle.machine_spec.specs.declared.devices.Question.{Question}
+use Rattle.machine_spec.specs.declared.instance.Instance.{Instance}
+use Rattle.machine_spec.specs.Stores.{live, instance_at}
+use Rattle.machine_spec.specs.Tasks.{Task, begun, tasks, resumed}
+use Rattle.machine_spec.specs.declared.threads.Filter.{Filter}
+use Rattle.machine_spec.specs.declared.threads.Filter.TheVariants.{Key as KeyHats, Flag, Clicked}
+use Rattle.machine_spec.specs.Line.{started, key_name, with_key, with_keys, key_down, reset, clicked, with_answer, answered, after}
+use Rattle.machine_spec.specs.World.{World}
 use Rattle.input_lines.specs.Frames.{is_frame}
 use Rattle.script_words.specs.declared.stops.CounterKind.{CounterKind}
 

@@ -1,7 +1,7 @@
 -- A run as the reference machine sees it, and what it keeps between the lines of a script.
 use Rattle.rand_core.specs.Stream.{Stream}
-use Rattle.script_machine.specs.Tasks.{Task}
-use Rattle.script_machine.specs.World.{World}
+use Rattle.machine_spec.specs.Tasks.{Task}
+use Rattle.machine_spec.specs.World.{World}
 use Rattle.std.specs.Prelude.{◌<◌, ◌^◌}
 use Rattle.project_check.specs.declared.project.Project.{Project}
 use Rattle.executions.specs.Seen.{seen}

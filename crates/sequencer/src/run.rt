@@ -1,13 +1,13 @@
 //! A run.
 
 ghost use Rattle.std.specs.Prelude.{◌≡◌, ◌≤◌, ◌<◌, ◌^◌, false, IfErr, IfOk, OnOk};
-ghost use Rattle.script_machine.specs.First.{first_world};
-ghost use Rattle.script_machine.specs.Frame as machine;
-ghost use Rattle.script_machine.specs.Line as lines;
-ghost use Rattle.script_machine.specs.Outcome.{Goes, StopIs};
-ghost use Rattle.script_machine.specs.Words.{seen_words};
-ghost use Rattle.script_machine.specs.declared.lines.Line.TheVariants.{Frame};
-ghost use Rattle.legal_worlds.specs.Runs.{KeepsLegal, OpensLegal};
+ghost use Rattle.machine_spec.specs.First.{first_world};
+ghost use Rattle.machine_spec.specs.Frame as machine;
+ghost use Rattle.machine_spec.specs.Line as lines;
+ghost use Rattle.machine_spec.specs.Outcome.{Goes, StopIs};
+ghost use Rattle.machine_spec.specs.Words.{seen_words};
+ghost use Rattle.machine_spec.specs.declared.lines.Line.TheVariants.{Frame};
+ghost use Rattle.laws_of_worlds.specs.Runs.{KeepsLegal, OpensLegal};
 ghost use Rattle.executions.specs.Resting.{IsIdle};
 ghost use Rattle.project_check.specs.Loaded.{program_of};
 ghost use Rattle.sequencer.specs.Runs.{world_of, IsRunOf};
@@ -16,9 +16,9 @@ ghost use Rattle.input_lines.specs.Stops.{IsOfLinesOrMemory};
 
 use devices::Devices;
 use executions::State;
-use legal_worlds::{every_line_keeps_it_legal, the_first_world_is_legal};
+use laws_of_worlds::{every_line_keeps_it_legal, the_first_world_is_legal};
+use machine_spec::{Budget, Line};
 use project_check::Project;
-use script_machine::{Budget, Line};
 use script_words::{Counted, Rng, Stop};
 use std::alloc::{AllocError, Global};
 use targets::Targets;

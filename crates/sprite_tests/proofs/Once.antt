@@ -4,7 +4,7 @@ use Rattle.std.specs.Prelude.{◌==◌, nat_le}
 use Rattle.std.specs.List.{count_by, list_all}
 use Rattle.std.proofs.lemmas.Bool.{and_parts, cases_Bool, eqb-true, leb-true}
 use Rattle.std.proofs.lemmas.List.Sums.{sum_by-cons}
-use Rattle.script_machine.specs.declared.instance.Instance.{Instance}
+use Rattle.machine_spec.specs.declared.instance.Instance.{Instance}
 use Rattle.looks_blocks.specs.Live.{HasOneEach}
 
 -- either none has the number, or its count was tested

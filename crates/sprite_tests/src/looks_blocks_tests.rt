@@ -2,18 +2,18 @@
 
 ghost use Rattle.std.specs.Prelude.{◌≡◌, ◌==◌, count_by, nat_le, true};
 ghost use Rattle.std.specs.List.{list_all};
-ghost use Rattle.script_machine.specs.Stores.{instance_at};
+ghost use Rattle.machine_spec.specs.Stores.{instance_at};
 ghost use Rattle.target_records.specs.Records.{records_in};
 ghost use Rattle.looks_blocks.specs.Costumes.{HasCostumes};
 ghost use Rattle.looks_blocks.specs.Live.{HasOneEach};
 
 use devices::Devices;
 use looks_blocks::apply;
+use machine_spec::{Context, Control, Instance, InstanceId, Serial};
 use opcode_table::Opcode;
 use project_json::{Text, read as read_json};
 use scratch_number::{Num, of_millionths};
 use scratch_values::{Arg, Args, BoundText, Held, ResolvedField, Value};
-use script_machine::{Context, Control, Instance, InstanceId, Serial};
 use script_words::{Counted, Rng, pcg};
 use std::process::Abort;
 use target_records::{Records, read};

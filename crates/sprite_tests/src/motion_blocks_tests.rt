@@ -1,12 +1,12 @@
 //! What no clause says: blocks on worked rows, of a stage, a sprite and a hidden sprite.
 
 use devices::Devices;
+use machine_spec::{Context, Control, InstanceId};
 use motion_blocks::apply;
 use opcode_table::Opcode;
 use project_json::{Text, read as read_json};
 use scratch_number::{Num, of_millionths};
 use scratch_values::{Arg, Args, BoundText, Held, ResolvedField, Value};
-use script_machine::{Context, Control, InstanceId};
 use script_words::{Counted, Rng, pcg};
 use std::process::Abort;
 use target_records::{Records, read};

@@ -2,12 +2,12 @@
 use Rattle.std.proofs.Common.{◌≡◌, ℕ, zero, suc, ◌<◌, List, [], ◌∷◌, length, get_or, map, Bool, true, false, refl, sym, ap, arith}
 use Rattle.std.specs.Prelude.{Option, None, Some, option_map, slice_get, unwrap_or}
 use Rattle.std.specs.Option.{option_and_then}
-use Rattle.script_machine.specs.declared.variables.Shown.{Shown}
-use Rattle.script_machine.specs.declared.variables.Shown.TheVariants.{Variable, List as Items}
-use Rattle.script_machine.specs.Program.{Monitor, Records, sprite_named}
-use Rattle.script_machine.specs.Stores.{live}
-use Rattle.script_machine.specs.Monitors.{monitored, what_shows}
-use Rattle.script_machine.specs.FrameText.{Stage, label, value_line, sprite_value, other_value, monitor_by, monitor_lines}
+use Rattle.machine_spec.specs.declared.variables.Shown.{Shown}
+use Rattle.machine_spec.specs.declared.variables.Shown.TheVariants.{Variable, List as Items}
+use Rattle.machine_spec.specs.Program.{Monitor, Records, sprite_named}
+use Rattle.machine_spec.specs.Stores.{live}
+use Rattle.machine_spec.specs.Monitors.{monitored, what_shows}
+use Rattle.machine_spec.specs.FrameText.{Stage, label, value_line, sprite_value, other_value, monitor_by, monitor_lines}
 use Rattle.target_records.specs.declared.monitors.MonitorRecord.{MonitorRecord}
 use Rattle.stage_frame.specs.declared.watches.Watch.{Watch}
 use Rattle.stage_frame.specs.Found.{watch_by, watch_of, found_by, found_lines}

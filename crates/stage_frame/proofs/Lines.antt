@@ -5,10 +5,10 @@ use Rattle.std.specs.Fmt.{decimal}
 use Rattle.std.specs.List.{join_with_byte}
 use Rattle.std.proofs.lemmas.List.Concat.{flat_map-append}
 use Rattle.scratch_number.specs.Text as numbers
-use Rattle.script_machine.specs.Program.{Records}
-use Rattle.script_machine.specs.declared.instance.Instance.{Instance}
-use Rattle.script_machine.specs.Stores.{record_of}
-use Rattle.script_machine.specs.FrameText.{line, quoted, style_text, costume_words, instance_line}
+use Rattle.machine_spec.specs.Program.{Records}
+use Rattle.machine_spec.specs.declared.instance.Instance.{Instance}
+use Rattle.machine_spec.specs.Stores.{record_of}
+use Rattle.machine_spec.specs.FrameText.{line, quoted, style_text, costume_words, instance_line}
 use Rattle.stage_frame.specs.Spaced.{spaced}
 
 -- a line is its first word, the others with a space in front of each, and the line end

@@ -1,9 +1,9 @@
 -- The lines of a frame and the text of the reference machine.
 use Rattle.std.proofs.Common.{◌≡◌, refl}
-use Rattle.script_machine.specs.Program.{Program, Records}
-use Rattle.script_machine.specs.Tasks.{Task}
-use Rattle.script_machine.specs.World.{World}
-use Rattle.script_machine.specs.FrameText.{frame_text}
+use Rattle.machine_spec.specs.Program.{Program, Records}
+use Rattle.machine_spec.specs.Tasks.{Task}
+use Rattle.machine_spec.specs.World.{World}
+use Rattle.machine_spec.specs.FrameText.{frame_text}
 use Rattle.stage_frame.specs.declared.frame.View.{View}
 use Rattle.stage_frame.specs.Lines.{frame_lines}
 use Rattle.stage_frame.specs.Seen.{IsSeen}

@@ -2,12 +2,12 @@
 use Rattle.std.specs.Prelude.{ℕ, List, [], map, Bool, Option, None, Some, unwrap_or, option_map, if◌then◌else◌}
 use Rattle.std.specs.Option.{option_and_then}
 use Rattle.scratch_values.specs.declared.value.Value.{Value}
-use Rattle.script_machine.specs.declared.variables.Shown.{Shown}
-use Rattle.script_machine.specs.declared.variables.Shown.TheVariants as shown
-use Rattle.script_machine.specs.Program.{Monitor, Records}
-use Rattle.script_machine.specs.Stores.{live}
-use Rattle.script_machine.specs.Monitors.{monitored, what_shows}
-use Rattle.script_machine.specs.FrameText.{Stage, shown_lines, value_line, label, common_value, sprite_value}
+use Rattle.machine_spec.specs.declared.variables.Shown.{Shown}
+use Rattle.machine_spec.specs.declared.variables.Shown.TheVariants as shown
+use Rattle.machine_spec.specs.Program.{Monitor, Records}
+use Rattle.machine_spec.specs.Stores.{live}
+use Rattle.machine_spec.specs.Monitors.{monitored, what_shows}
+use Rattle.machine_spec.specs.FrameText.{Stage, shown_lines, value_line, label, common_value, sprite_value}
 use Rattle.stage_frame.specs.declared.watches.Watch.{Watch}
 use Rattle.stage_frame.specs.declared.watches.Watch.TheVariants.{Variable, List as Items, Target, Nothing}
 

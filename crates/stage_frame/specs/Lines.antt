@@ -2,8 +2,8 @@
 use Rattle.std.specs.Prelude.{ℕ, List, [], ◌∷◌, ◌++◌, codes, flat_map}
 use Rattle.std.specs.Fmt.{decimal}
 use Rattle.std.specs.List.{enumerate_from, zip}
-use Rattle.script_machine.specs.Program.{Records}
-use Rattle.script_machine.specs.FrameText.{line, instance_lines, question_line, monitor_lines, made_lines}
+use Rattle.machine_spec.specs.Program.{Records}
+use Rattle.machine_spec.specs.FrameText.{line, instance_lines, question_line, monitor_lines, made_lines}
 use Rattle.stage_frame.specs.declared.frame.View.{View}
 use Rattle.stage_frame.specs.Seen.{seen_stage}
 

@@ -1,7 +1,7 @@
 -- What a view shows of a run.
 use Rattle.std.specs.Prelude.{◌≡◌}
-use Rattle.script_machine.specs.FrameText.{Stage}
-use Rattle.script_machine.specs.World.{World}
+use Rattle.machine_spec.specs.FrameText.{Stage}
+use Rattle.machine_spec.specs.World.{World}
 use Rattle.stage_frame.specs.declared.frame.View.{View}
 
 -- a view of this world: its number of the frame, its count of words that were drawn, and its stores

@@ -1,10 +1,10 @@
 -- Helper of a private function: what a monitor shows, by the record of its target.
 use Rattle.std.specs.Prelude.{ℕ, position, codes, bytes_eq, Option, None, option_map, if◌then◌else◌}
-use Rattle.script_machine.specs.declared.records.TargetRecord.{TargetRecord}
-use Rattle.script_machine.specs.declared.variables.Shown.{Shown}
-use Rattle.script_machine.specs.declared.variables.Shown.TheVariants.{Variable, List as Items}
-use Rattle.script_machine.specs.Program.{Monitor}
-use Rattle.script_machine.specs.Monitors.{has_id}
+use Rattle.machine_spec.specs.declared.records.TargetRecord.{TargetRecord}
+use Rattle.machine_spec.specs.declared.variables.Shown.{Shown}
+use Rattle.machine_spec.specs.declared.variables.Shown.TheVariants.{Variable, List as Items}
+use Rattle.machine_spec.specs.Program.{Monitor}
+use Rattle.machine_spec.specs.Monitors.{has_id}
 
 abbrev pub shown_by : Monitor → ℕ → TargetRecord → Option Shown
 shown_by m target own =

@@ -1,5 +1,5 @@
 -- What contracts see of a writer of frames.
-use Rattle.script_machine.specs.Program.{Records}
+use Rattle.machine_spec.specs.Program.{Records}
 use Rattle.target_records.specs.Records.{records_in}
 use Rattle.stage_frame.specs.declared.writer.FrameWriter.{FrameWriter}
 

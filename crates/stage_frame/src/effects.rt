@@ -2,13 +2,13 @@
 
 ghost use Rattle.std.specs.Prelude.{◌≡◌, ◌++◌, flat_map, OnOk};
 ghost use Rattle.std.specs.List.{zip};
-ghost use Rattle.script_machine.specs.Effects.{effect_names};
-ghost use Rattle.script_machine.specs.FrameText.{effect_line};
+ghost use Rattle.machine_spec.specs.Effects.{effect_names};
+ghost use Rattle.machine_spec.specs.FrameText.{effect_line};
 ghost use Rattle.stage_frame.specs.Zero.{is_zero};
 
 use crate::words::{push_number, push_word};
+use machine_spec::{Effect, Effects};
 use scratch_number::Num;
-use script_machine::{Effect, Effects};
 use std::alloc::AllocError;
 
 // Whether a number is 0.

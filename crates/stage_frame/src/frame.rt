@@ -1,7 +1,7 @@
 //! The lines of a frame.
 
 ghost use Rattle.std.specs.Prelude.{◌≡◌, ◌++◌, [], if◌then◌else◌, OnOk};
-ghost use Rattle.script_machine.specs.FrameText as machine;
+ghost use Rattle.machine_spec.specs.FrameText as machine;
 ghost use Rattle.target_records.specs.Records.{records_in};
 ghost use Rattle.stage_frame.specs.Found.{are_found};
 ghost use Rattle.stage_frame.specs.Lines.{first_line, frame_lines};

@@ -4,16 +4,16 @@ ghost use Rattle.std.specs.Prelude.{◌≡◌, ◌+◌, ◌<◌, ◌++◌, ◌�
 ghost use Rattle.std.specs.Fmt.{decimal};
 ghost use Rattle.std.specs.List.{enumerate_from};
 ghost use Rattle.scratch_number.specs.Text as numbers;
-ghost use Rattle.script_machine.specs.FrameText as machine;
-ghost use Rattle.script_machine.specs.FrameText.{costume_words, quoted};
-ghost use Rattle.script_machine.specs.Stores.{record_of};
+ghost use Rattle.machine_spec.specs.FrameText as machine;
+ghost use Rattle.machine_spec.specs.FrameText.{costume_words, quoted};
+ghost use Rattle.machine_spec.specs.Stores.{record_of};
 ghost use Rattle.target_records.specs.Records.{records_in};
 ghost use Rattle.stage_frame.specs.Spaced.{spaced};
 
 use crate::effects::push_effects;
 use crate::names::{costume_name, target_name};
 use crate::words::{push_natural, push_number, push_quoted, push_word};
-use script_machine::{Instance, Say, Style};
+use machine_spec::{Instance, Say, Style};
 use std::alloc::AllocError;
 use target_records::Records;
 

@@ -2,7 +2,7 @@
 
 ghost use Rattle.std.specs.Prelude.{◌≡◌, ◌++◌, ◌∷◌, flat_map, OnOk};
 ghost use Rattle.std.specs.Option.{option_map};
-ghost use Rattle.script_machine.specs.FrameText as machine;
+ghost use Rattle.machine_spec.specs.FrameText as machine;
 ghost use Rattle.stage_frame.specs.Told.{told_value};
 
 use crate::told::{Told, push_told, push_value};

@@ -3,7 +3,7 @@
 ghost use Rattle.std.specs.Prelude.{◌≡◌, ◌++◌, false, flat_map, slice_get, unwrap_or, OnOk};
 ghost use Rattle.std.specs.List.{zip};
 ghost use Rattle.std.specs.Option.{option_map};
-ghost use Rattle.script_machine.specs.FrameText as machine;
+ghost use Rattle.machine_spec.specs.FrameText as machine;
 ghost use Rattle.target_records.specs.Records.{monitor_in, records_in};
 ghost use Rattle.stage_frame.specs.Found.{are_found, found_lines, target_line};
 ghost use Rattle.stage_frame.specs.Seen.{seen_stage};
@@ -14,7 +14,7 @@ use crate::names::sprite_name;
 use crate::shown::push_shown;
 use crate::values::told_of;
 use crate::watches::{Watch, watch_at};
-use script_machine::{Made, Shown, TargetId};
+use machine_spec::{Made, Shown, TargetId};
 use std::alloc::AllocError;
 use target_records::{MonitorRecord, Records};
 use variables::Variables;

@@ -2,12 +2,12 @@
 
 ghost use Rattle.std.specs.Prelude.{◌≡◌, [], slice_get, slice_index_or, unwrap_or, IfSome};
 ghost use Rattle.std.specs.Option.{option_map};
-ghost use Rattle.script_machine.specs.FrameText as machine;
-ghost use Rattle.script_machine.specs.Program.{record_at};
+ghost use Rattle.machine_spec.specs.FrameText as machine;
+ghost use Rattle.machine_spec.specs.Program.{record_at};
 ghost use Rattle.target_records.specs.Held.{IsSmall};
 ghost use Rattle.target_records.specs.Records.{records_in};
 
-use script_machine::{CostumeNames, ListRecords, TargetId, TargetRecord, VariableRecords};
+use machine_spec::{CostumeNames, ListRecords, TargetId, TargetRecord, VariableRecords};
 use target_records::Records;
 
 // The record of a target, if there is one.

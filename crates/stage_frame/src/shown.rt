@@ -2,18 +2,18 @@
 
 ghost use Rattle.std.specs.Prelude.{◌≡◌, ◌&&◌, not, bytes_eq, position, ◌<◌, ◌^◌, length, ◌++◌, OnOk, IfSome};
 ghost use Rattle.std.specs.Option.{option_map};
-ghost use Rattle.script_machine.specs.declared.variables.Shown.TheVariants.{Variable, List as Items};
-ghost use Rattle.script_machine.specs.FrameText as machine;
-ghost use Rattle.script_machine.specs.Monitors as monitors;
-ghost use Rattle.script_machine.specs.Program.{sprite_named as named};
+ghost use Rattle.machine_spec.specs.declared.variables.Shown.TheVariants.{Variable, List as Items};
+ghost use Rattle.machine_spec.specs.FrameText as machine;
+ghost use Rattle.machine_spec.specs.Monitors as monitors;
+ghost use Rattle.machine_spec.specs.Program.{sprite_named as named};
 ghost use Rattle.target_records.specs.Records.{monitor_in, records_in};
 ghost use Rattle.stage_frame.specs.Shown.{shown_by};
 
 use crate::labels::{push_list_lines, push_value_line};
 use crate::names::{list_name, record, variable_name};
 use crate::told::Told;
+use machine_spec::{InstanceId, ListRecords, Shown, TargetId, TargetRecord, VariableRecords};
 use project_json::Text;
-use script_machine::{InstanceId, ListRecords, Shown, TargetId, TargetRecord, VariableRecords};
 use std::alloc::AllocError;
 use target_records::{MonitorRecord, Records};
 use variables::Variables;

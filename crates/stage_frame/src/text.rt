@@ -1,7 +1,7 @@
 //! The text of one frame.
 
 ghost use Rattle.std.specs.Prelude.{◌≡◌, IfOk};
-ghost use Rattle.script_machine.specs.FrameText as machine;
+ghost use Rattle.machine_spec.specs.FrameText as machine;
 ghost use Rattle.project_check.specs.Loaded.{program_of};
 ghost use Rattle.sequencer.specs.Runs.{world_of};
 

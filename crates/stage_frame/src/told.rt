@@ -3,7 +3,7 @@
 ghost use Rattle.std.specs.Prelude.{◌≡◌, ◌++◌, ◌∷◌, OnOk};
 ghost use Rattle.scratch_number.specs.Text as numbers;
 ghost use Rattle.scratch_values.specs.Value.{text_of};
-ghost use Rattle.script_machine.specs.FrameText.{quoted};
+ghost use Rattle.machine_spec.specs.FrameText.{quoted};
 ghost use Rattle.stage_frame.specs.Told.{told_value};
 
 use crate::words::push_quoted;

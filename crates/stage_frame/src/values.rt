@@ -3,9 +3,9 @@
 ghost use Rattle.std.specs.Prelude.{◌≡◌, ◌+◌, Some, pos, unwrap_or};
 ghost use Rattle.std.specs.Option.{option_map};
 ghost use Rattle.project_json.specs.View.{tree};
-ghost use Rattle.script_machine.specs.FrameText as machine;
-ghost use Rattle.script_machine.specs.Sensing as sensing;
-ghost use Rattle.script_machine.specs.Stores.{live, no_instance};
+ghost use Rattle.machine_spec.specs.FrameText as machine;
+ghost use Rattle.machine_spec.specs.Sensing as sensing;
+ghost use Rattle.machine_spec.specs.Stores.{live, no_instance};
 ghost use Rattle.target_records.specs.Records.{monitor_in, records_in};
 ghost use Rattle.stage_frame.specs.Found.{told_of};
 ghost use Rattle.stage_frame.specs.Seen.{seen_stage};
@@ -14,9 +14,9 @@ ghost use Rattle.stage_frame.specs.Told.{told_value};
 use crate::frame::View;
 use crate::names::costume_name;
 use crate::told::Told;
+use machine_spec::{Instance, InstanceId, TargetId};
 use project_json::{Json, is_null, member, text_of};
 use scratch_number::{of_whole, round};
-use script_machine::{Instance, InstanceId, TargetId};
 use target_records::{MonitorRecord, Records};
 use targets::Targets;
 

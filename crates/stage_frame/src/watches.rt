@@ -6,7 +6,7 @@ ghost use Rattle.target_records.specs.Records.{monitor_in, records_in};
 ghost use Rattle.stage_frame.specs.Found.{are_found, watch_of, watch_of_shown, watch_of_target};
 
 use crate::shown::{monitored, what_shows};
-use script_machine::{Shown, TargetId};
+use machine_spec::{Shown, TargetId};
 use std::alloc::{AllocError, Global};
 use target_records::{MonitorRecord, Records};
 

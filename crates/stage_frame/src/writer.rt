@@ -24,10 +24,10 @@ pub struct FrameWriter<'r> {
 
 impl<'r> FrameWriter<'r> {
     ghost use Rattle.std.specs.Prelude.{◌≡◌, IfOk};
-    ghost use Rattle.script_machine.specs.FrameText.{frame_text};
-    ghost use Rattle.script_machine.specs.Program.{Program};
-    ghost use Rattle.script_machine.specs.Tasks.{Task};
-    ghost use Rattle.script_machine.specs.World.{World};
+    ghost use Rattle.machine_spec.specs.FrameText.{frame_text};
+    ghost use Rattle.machine_spec.specs.Program.{Program};
+    ghost use Rattle.machine_spec.specs.Tasks.{Task};
+    ghost use Rattle.machine_spec.specs.World.{World};
     ghost use Rattle.target_records.specs.Records.{records_in};
     ghost use Rattle.project_check.specs.Loaded.{program_of};
     ghost use Rattle.sequencer.specs.Runs.{world_of};

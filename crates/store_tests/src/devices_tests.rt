@@ -3,9 +3,9 @@
 use devices::{
     BubbleTimer, BubbleTimers, DeviceParts, Devices, Key, Keys, Question, Questions, seconds,
 };
+use machine_spec::{InstanceId, Serial};
 use scratch_number::{Num, of_whole};
 use scratch_values::BoundText;
-use script_machine::{InstanceId, Serial};
 use std::alloc::Global;
 use std::process::Abort;
 

@@ -1,10 +1,12 @@
 //! Each public function once: bubbles of two sprites, and questions that are shown as bubbles.
 
 use devices::{Devices, Question};
+use machine_spec::{BubbleText, InstanceId, Say, Serial};
 use project_json::read as read_json;
-use scenes::{drop_questions, empty_bubble, first_taken, show_first_question, update_bubble};
 use scratch_values::BoundText;
-use script_machine::{BubbleText, InstanceId, Say, Serial};
+use speech_bubbles::{
+    drop_questions, empty_bubble, first_taken, show_first_question, update_bubble,
+};
 use std::process::Abort;
 use target_records::{Records, read};
 use targets::Targets;

@@ -1,8 +1,8 @@
 //! Each public function once, on a stage and two sprites.
 
+use machine_spec::{BlockId, BubbleText, InstanceId};
 use project_json::read as read_json;
 use scratch_number::{Num, of_whole};
-use script_machine::{BlockId, BubbleText, InstanceId};
 use std::process::Abort;
 use target_records::{Records, read};
 use targets::{Bubble, Edges, Effect, Effects, Instance, Place, Say, Style, TargetId, Targets};

@@ -1,9 +1,9 @@
 //! Each public function once, on a small project.
 
+use machine_spec::{InstanceId, TargetId};
 use project_json::read as read_json;
 use scratch_number::{Num, of_whole};
 use scratch_values::{Value, ValueLists, Values, to_number};
-use script_machine::{InstanceId, TargetId};
 use std::alloc::{AllocError, Global};
 use std::process::Abort;
 use target_records::{Records, read};

@@ -3,12 +3,12 @@ use Rattle.std.proofs.Common.{◌≡◌, ℕ, ◌<◌, ◌≤◌, Bool, true, fa
 use Rattle.std.specs.Option.{option_map}
 use Rattle.std.specs.Prelude.{find, flat_map, nat_lt}
 use Rattle.std.proofs.lemmas.Bool.Decides.{nat_tests}
-use Rattle.shapes.specs.Places.{path}
+use Rattle.json_shapes.specs.Places.{path}
 use Rattle.std.specs.Fmt.{decimal, digits}
 use Rattle.std.specs.List.{enumerate_from}
 use Rattle.scratch_values.specs.declared.value.Value.{Value}
-use Rattle.project_file.specs.Limits.{Measure, measure, is_too_many, first_too_many, id_or_none, variable_measures, list_measures, item_measures, costume_measures, target_measures}
-use Rattle.script_machine.specs.declared.records.TargetRecord.{TargetRecord}
+use Rattle.project_spec.specs.Limits.{Measure, measure, is_too_many, first_too_many, id_or_none, variable_measures, list_measures, item_measures, costume_measures, target_measures}
+use Rattle.machine_spec.specs.declared.records.TargetRecord.{TargetRecord}
 use Rattle.target_records.specs.declared.refusal.RecordRefusal.{RecordRefusal}
 use Rattle.target_records.specs.declared.refusal.RecordRefusal.TheVariants.{Shape, StageCount, TooMany, NoMemory}
 use Rattle.target_records.specs.Bounds.{Bounds, IsTooManyAt}

@@ -10,9 +10,9 @@ use Rattle.std.proofs.lemmas.List.Elements.{All-set, All-push}
 use Rattle.scratch_values.specs.declared.names.VarName.{VarName}
 use Rattle.scratch_values.specs.declared.value.Value.TheVariants.{Number}
 use Rattle.scratch_values.specs.Casts.{zero_number}
-use Rattle.script_machine.specs.declared.records.TargetRecord.{TargetRecord}
-use Rattle.script_machine.specs.Lists.{set_some, changed_at}
-use Rattle.project_file.specs.Resolving.{with_added, OfVariable, OfList}
+use Rattle.machine_spec.specs.declared.records.TargetRecord.{TargetRecord}
+use Rattle.machine_spec.specs.Lists.{set_some, changed_at}
+use Rattle.project_spec.specs.Resolving.{with_added, OfVariable, OfList}
 use Rattle.target_records.specs.Held.{IsSmall, IsShort, HasShortLists, AreHeld}
 
 position-set : {A : Type 0} (p : A → Bool) (xs : List A) (i : ℕ) (x y : A) → slice_get xs i ≡ Some x → p y ≡ p x → position p (set xs i y) ≡ position p xs

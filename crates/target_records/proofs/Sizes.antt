@@ -3,14 +3,14 @@ use Rattle.std.proofs.Common.{◌≡◌, ℕ, zero, suc, ◌+◌, ◌<◌, ◌�
 use Rattle.std.specs.Str.{bytes_eq}
 use Rattle.std.specs.Fmt.{decimal}
 use Rattle.std.specs.Prelude.{IfOk}
-use Rattle.shapes.specs.declared.fault.Fault.{Fault}
-use Rattle.shapes.specs.Reads.{Reads}
-use Rattle.shapes.specs.Each.{after}
-use Rattle.project_file.specs.Targets.{costume_of, costumes_of, not_empty}
+use Rattle.json_shapes.specs.declared.fault.Fault.{Fault}
+use Rattle.json_shapes.specs.Reads.{Reads}
+use Rattle.json_shapes.specs.Each.{after}
+use Rattle.project_spec.specs.Targets.{costume_of, costumes_of, not_empty}
 use Rattle.project_json.specs.Tree.{Tree, null, truth, number, text, list, object, Trees, no_trees, tree_and, Fields, no_fields, field_and, trees_of, fields_of, tree_list, field_list}
 use Rattle.project_json.specs.Parts.{value_named, members_in, items_in, is_null}
 use Rattle.project_json.specs.Size.{size_of, items_size, members_size}
-use Rattle.shapes.specs.Shapes.{Reader, ◌>>=◌, found, named, required, absent_or, present, defaulted, members, items, each_from, each_member}
+use Rattle.json_shapes.specs.Shapes.{Reader, ◌>>=◌, found, named, required, absent_or, present, defaulted, members, items, each_from, each_member}
 
 some-same : {A : Type 0} (a b : A) → Some a ≡ Some b → a ≡ b
 some-same a b h = cc

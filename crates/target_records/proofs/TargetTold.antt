@@ -4,14 +4,14 @@ use Rattle.std.specs.Prelude.{Bool}
 use Rattle.project_json.specs.Tree.{Tree}
 use Rattle.scratch_number.specs.declared.number.Num.{Num}
 use Rattle.scratch_values.specs.Casts.{zero_number}
-use Rattle.shapes.specs.Shapes as shape
-use Rattle.script_machine.specs.declared.instance.Style.{Style}
-use Rattle.script_machine.specs.declared.instance.Style.TheVariants.{AllAround}
-use Rattle.script_machine.specs.declared.records.VariableRecord.{VariableRecord}
-use Rattle.script_machine.specs.declared.records.ListRecord.{ListRecord}
-use Rattle.script_machine.specs.Costume.{costume_index}
-use Rattle.project_file.specs.Values.{num}
-use Rattle.project_file.specs.Targets.{Look, hundred, look_by, look_of, style_of, costumes_of, target_members}
+use Rattle.json_shapes.specs.Shapes as shape
+use Rattle.machine_spec.specs.declared.instance.Style.{Style}
+use Rattle.machine_spec.specs.declared.instance.Style.TheVariants.{AllAround}
+use Rattle.machine_spec.specs.declared.records.VariableRecord.{VariableRecord}
+use Rattle.machine_spec.specs.declared.records.ListRecord.{ListRecord}
+use Rattle.machine_spec.specs.Costume.{costume_index}
+use Rattle.project_spec.specs.Values.{num}
+use Rattle.project_spec.specs.Targets.{Look, hundred, look_by, look_of, style_of, costumes_of, target_members}
 use Rattle.target_records.specs.Reading.{variables_of, lists_of}
 
 pub target_told : (at : List (List ℕ)) (ms : List (List ℕ × Tree)) (is_stage : Bool) (name : List ℕ) (variables : List VariableRecord) (lists : List ListRecord) (costumes : List (List ℕ)) (costume layer_order volume : Num) (look : Look) (style : Style) (k : ℕ) (seen : Look)

@@ -1,8 +1,8 @@
 -- What reading a document answers, beside the records that it tells.
 use Rattle.std.specs.Prelude.{◌≡◌, ◌≢◌, ℕ, List, [], ◌∷◌, ◌++◌, length, codes, None, Some, Result, Ok, Err}
 use Rattle.std.specs.List.{count_by}
-use Rattle.script_machine.specs.Program as program
-use Rattle.project_file.specs.Limits.{Measure, measure, most_targets, most_monitors, first_too_many}
+use Rattle.machine_spec.specs.Program as program
+use Rattle.project_spec.specs.Limits.{Measure, measure, most_targets, most_monitors, first_too_many}
 use Rattle.target_records.specs.declared.records.Records.{Records}
 use Rattle.target_records.specs.declared.refusal.RecordRefusal.{RecordRefusal}
 use Rattle.target_records.specs.declared.refusal.RecordRefusal.TheVariants.{Shape, StageCount, TooMany, NoMemory}

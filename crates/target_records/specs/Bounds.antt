@@ -1,10 +1,10 @@
 -- Which records have nothing that is too long, and what is told of the others.
 use Rattle.std.specs.Prelude.{◌≡◌, ℕ, List, flat_map, None, Some, Result, Ok, Err}
 use Rattle.std.specs.List.{enumerate_from}
-use Rattle.shapes.specs.declared.fault.Fault.{Fault}
-use Rattle.shapes.specs.declared.fault.Fault.TheVariants as fault
-use Rattle.script_machine.specs.declared.records.TargetRecord.{TargetRecord}
-use Rattle.project_file.specs.Limits.{Measure, target_measures, target_place, first_too_many}
+use Rattle.json_shapes.specs.declared.fault.Fault.{Fault}
+use Rattle.json_shapes.specs.declared.fault.Fault.TheVariants as fault
+use Rattle.machine_spec.specs.declared.records.TargetRecord.{TargetRecord}
+use Rattle.project_spec.specs.Limits.{Measure, target_measures, target_place, first_too_many}
 use Rattle.target_records.specs.declared.refusal.RecordRefusal.{RecordRefusal}
 use Rattle.target_records.specs.declared.refusal.RecordRefusal.TheVariants.{Shape, StageCount, TooMany, NoMemory}
 

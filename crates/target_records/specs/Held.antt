@@ -1,9 +1,9 @@
 -- What is true of the targets of each project's records.
 use Rattle.std.specs.Prelude.{◌≡◌, ℕ, ◌<◌, ◌≤◌, ◌^◌, List, length, position, unwrap_or}
 use Rattle.std.specs.List.{All}
-use Rattle.script_machine.specs.declared.records.ListRecord.{ListRecord}
-use Rattle.script_machine.specs.declared.records.TargetRecord.{TargetRecord}
-use Rattle.script_machine.specs.DataRows.{most_items}
+use Rattle.machine_spec.specs.declared.records.ListRecord.{ListRecord}
+use Rattle.machine_spec.specs.declared.records.TargetRecord.{TargetRecord}
+use Rattle.machine_spec.specs.DataRows.{most_items}
 
 -- a target has fewer than 2^32 variables and lists
 abbrev pub IsSmall : TargetRecord → Type 0

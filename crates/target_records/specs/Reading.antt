@@ -2,12 +2,12 @@
 -- then the monitors. The blocks are read apart from them.
 use Rattle.std.specs.Prelude.{ℕ, List, [], ◌∷◌, codes, Result, Ok}
 use Rattle.project_json.specs.Tree.{Tree}
-use Rattle.shapes.specs.Shapes as shape
-use Rattle.shapes.specs.Shapes.{Reader, ◌>>=◌}
-use Rattle.script_machine.specs.Program.{Monitor, Records}
-use Rattle.script_machine.specs.declared.records.VariableRecord.{VariableRecord}
-use Rattle.script_machine.specs.declared.records.ListRecord.{ListRecord}
-use Rattle.project_file.specs.Targets.{variable_of, list_of, target_of, monitor_of}
+use Rattle.json_shapes.specs.Shapes as shape
+use Rattle.json_shapes.specs.Shapes.{Reader, ◌>>=◌}
+use Rattle.machine_spec.specs.Program.{Monitor, Records}
+use Rattle.machine_spec.specs.declared.records.VariableRecord.{VariableRecord}
+use Rattle.machine_spec.specs.declared.records.ListRecord.{ListRecord}
+use Rattle.project_spec.specs.Targets.{variable_of, list_of, target_of, monitor_of}
 
 -- the variables of a target, and its lists, by its members
 abbrev pub variables_of : Reader (List (List ℕ × Tree)) (List VariableRecord)

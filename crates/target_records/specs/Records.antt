@@ -1,8 +1,8 @@
 -- The records of a project file, as the machine sees them.
 use Rattle.std.specs.Prelude.{map}
 use Rattle.project_json.specs.View.{tree}
-use Rattle.script_machine.specs.Program as program
-use Rattle.script_machine.specs.Program.{Monitor}
+use Rattle.machine_spec.specs.Program as program
+use Rattle.machine_spec.specs.Program.{Monitor}
 use Rattle.target_records.specs.declared.monitors.MonitorRecord.{MonitorRecord}
 use Rattle.target_records.specs.declared.file_records.FileRecords.{FileRecords}
 use Rattle.target_records.specs.declared.records.Records.{Records}

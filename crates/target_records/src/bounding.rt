@@ -2,10 +2,10 @@
 
 ghost use Rattle.std.specs.Prelude.{◌≡◌, ◌<◌, ◌^◌, ◌≤◌, map, length, flat_map, IfOk, IsFalse, codes, ◌∷◌, []};
 ghost use Rattle.std.specs.List.{All, enumerate_from};
-ghost use Rattle.project_file.specs.FileValues.{value_in};
+ghost use Rattle.project_spec.specs.FileValues.{value_in};
 ghost use Rattle.scratch_values.specs.Longest.{longest};
-ghost use Rattle.project_file.specs.Limits as limits;
-ghost use Rattle.shapes.specs.Places.{path};
+ghost use Rattle.project_spec.specs.Limits as limits;
+ghost use Rattle.json_shapes.specs.Places.{path};
 ghost use Rattle.target_records.specs.Bounds.{Bounds, lengths_in};
 ghost use Rattle.target_records.specs.Held.{HasShortLists, IsShort, IsSmall};
 
@@ -14,14 +14,14 @@ use crate::file_targets::{
 };
 use crate::held_targets::HeldTargets;
 use crate::refusal::RecordRefusal;
+use json_shapes::Place;
 use lists::ListOf;
-use project_file::FileValue;
-use project_json::{Text, Texts};
-use scratch_values::{BoundText, LONGEST, Value, Values, VarName};
-use script_machine::{
+use machine_spec::{
     CostumeNames, ListRecord, ListRecords, TargetRecord, VariableRecord, VariableRecords,
 };
-use shapes::Place;
+use project_json::{Text, Texts};
+use project_spec::FileValue;
+use scratch_values::{BoundText, LONGEST, Value, Values, VarName};
 use std::alloc::Global;
 
 // The most items that a list may have.

@@ -4,13 +4,13 @@ ghost use Rattle.std.specs.Prelude.{◌≡◌, ◌<◌, ◌^◌, map, length, co
 ghost use Rattle.project_json.specs.Size.{size_of, members_size};
 ghost use Rattle.project_json.specs.Tree.{fields_of};
 ghost use Rattle.project_json.specs.View.{tree, field};
-ghost use Rattle.project_file.specs.Targets.{costume_of, costumes_of, not_empty};
-ghost use Rattle.shapes.specs.Reads.{Reads};
-ghost use Rattle.shapes.specs.Shapes as shape;
+ghost use Rattle.project_spec.specs.Targets.{costume_of, costumes_of, not_empty};
+ghost use Rattle.json_shapes.specs.Reads.{Reads};
+ghost use Rattle.json_shapes.specs.Shapes as shape;
 
+use json_shapes::{Fault, Place, items, members, required, required_text};
 use lists::ListOf;
 use project_json::{Json, Member, Text, Texts};
-use shapes::{Fault, Place, items, members, required, required_text};
 use std::alloc::Global;
 
 // The name of a costume.

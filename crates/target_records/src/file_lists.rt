@@ -4,19 +4,19 @@ ghost use Rattle.std.specs.Prelude.{◌≡◌, ◌<◌, ◌^◌, map, length, []
 ghost use Rattle.project_json.specs.Size.{members_size};
 ghost use Rattle.project_json.specs.Tree.{fields_of};
 ghost use Rattle.project_json.specs.View.{tree, field};
-ghost use Rattle.project_file.specs.FileValues.{value_in};
-ghost use Rattle.project_file.specs.Targets.{list_of, values_of};
-ghost use Rattle.project_file.specs.Values as told;
-ghost use Rattle.shapes.specs.Reads.{Reads};
-ghost use Rattle.shapes.specs.Shapes as shape;
+ghost use Rattle.project_spec.specs.FileValues.{value_in};
+ghost use Rattle.project_spec.specs.Targets.{list_of, values_of};
+ghost use Rattle.project_spec.specs.Values as told;
+ghost use Rattle.json_shapes.specs.Reads.{Reads};
+ghost use Rattle.json_shapes.specs.Shapes as shape;
 ghost use Rattle.target_records.specs.Reading.{lists_of};
 
 use crate::file_targets::{FileList, FileLists};
 use crate::members::few_members;
+use json_shapes::{Fault, Place, item, item_text, items};
 use lists::ListOf;
-use project_file::{FileValue, value};
 use project_json::{Json, Member};
-use shapes::{Fault, Place, item, item_text, items};
+use project_spec::{FileValue, value};
 use std::alloc::Global;
 
 fn each_value(alloc: Global, place: &Place, items: &[Json]) -> Result<ListOf<FileValue>, Fault>

@@ -4,10 +4,10 @@ ghost use Rattle.std.specs.Prelude.{◌≡◌, ◌<◌, ◌≤◌, ◌^◌, leng
 ghost use Rattle.std.specs.List.{count_by};
 
 use lists::ListOf;
-use project_file::FileValue;
+use machine_spec::Style;
 use project_json::{Text, Texts};
+use project_spec::FileValue;
 use scratch_number::Num;
-use script_machine::Style;
 use std::marker::Model;
 
 // A variable of the file. Contracts see its record.
@@ -20,8 +20,8 @@ pub(crate) struct FileVariable {
 
 impl Model for FileVariable {
     ghost use Rattle.std.specs.Prelude.{Some};
-    ghost use Rattle.project_file.specs.FileValues.{value_in};
-    ghost use Rattle.script_machine.specs.declared.records.VariableRecord.{VariableRecord};
+    ghost use Rattle.project_spec.specs.FileValues.{value_in};
+    ghost use Rattle.machine_spec.specs.declared.records.VariableRecord.{VariableRecord};
 
     ghost Value = { VariableRecord };
 
@@ -38,8 +38,8 @@ pub(crate) struct FileList {
 
 impl Model for FileList {
     ghost use Rattle.std.specs.Prelude.{Some, map};
-    ghost use Rattle.project_file.specs.FileValues.{value_in};
-    ghost use Rattle.script_machine.specs.declared.records.ListRecord.{ListRecord};
+    ghost use Rattle.project_spec.specs.FileValues.{value_in};
+    ghost use Rattle.machine_spec.specs.declared.records.ListRecord.{ListRecord};
 
     ghost Value = { ListRecord };
 
@@ -71,7 +71,7 @@ pub(crate) struct FileTarget {
 
 impl Model for FileTarget {
     ghost use Rattle.std.specs.Prelude.{◌<◌, ◌^◌, length};
-    ghost use Rattle.script_machine.specs.declared.records.TargetRecord.{TargetRecord};
+    ghost use Rattle.machine_spec.specs.declared.records.TargetRecord.{TargetRecord};
 
     ghost Value = { TargetRecord };
 
@@ -103,7 +103,7 @@ pub struct FileTargets {
 
 impl Model for FileTargets {
     ghost use Rattle.std.specs.Prelude.{List, ◌<◌, ◌^◌, length};
-    ghost use Rattle.script_machine.specs.declared.records.TargetRecord.{TargetRecord};
+    ghost use Rattle.machine_spec.specs.declared.records.TargetRecord.{TargetRecord};
 
     ghost Value = { List TargetRecord };
 

@@ -4,17 +4,17 @@ ghost use Rattle.std.specs.Prelude.{◌≡◌, ◌<◌, ◌^◌, map, length, []
 ghost use Rattle.project_json.specs.Size.{members_size};
 ghost use Rattle.project_json.specs.Tree.{fields_of};
 ghost use Rattle.project_json.specs.View.{tree, field};
-ghost use Rattle.project_file.specs.Targets.{variable_of};
-ghost use Rattle.shapes.specs.Reads.{Reads};
-ghost use Rattle.shapes.specs.Shapes as shape;
+ghost use Rattle.project_spec.specs.Targets.{variable_of};
+ghost use Rattle.json_shapes.specs.Reads.{Reads};
+ghost use Rattle.json_shapes.specs.Shapes as shape;
 ghost use Rattle.target_records.specs.Reading.{variables_of};
 
 use crate::file_targets::{FileVariable, FileVariables};
 use crate::members::few_members;
+use json_shapes::{Fault, Place, item, item_text, items};
 use lists::ListOf;
-use project_file::value;
 use project_json::Member;
-use shapes::{Fault, Place, item, item_text, items};
+use project_spec::value;
 use std::alloc::Global;
 
 // A variable: a list of its name and its value.

@@ -2,15 +2,15 @@
 
 ghost use Rattle.std.specs.Prelude.{◌≡◌, ◌+◌, ◌<◌, ◌^◌, length, position, unwrap_or, slice_get, IfSome, OnOk, OnErr, IfOk};
 ghost use Rattle.std.specs.List.{All};
-ghost use Rattle.script_machine.specs.Lists.{changed_at};
-ghost use Rattle.script_machine.specs.Program.{no_target};
-ghost use Rattle.project_file.specs.Resolving.{with_added, OfVariable, OfList};
+ghost use Rattle.machine_spec.specs.Lists.{changed_at};
+ghost use Rattle.machine_spec.specs.Program.{no_target};
+ghost use Rattle.project_spec.specs.Resolving.{with_added, OfVariable, OfList};
 ghost use Rattle.target_records.specs.Held.{HasShortLists, IsSmall, stage_in};
 
 use lists::ListOf;
+use machine_spec::{ListRecord, TargetRecord, VariableRecord};
 use scratch_number::of_whole;
 use scratch_values::{Value, VarName};
-use script_machine::{ListRecord, TargetRecord, VariableRecord};
 use std::alloc::{AllocError, Global};
 use std::marker::Model;
 
@@ -24,7 +24,7 @@ pub(crate) struct HeldTargets {
 
 impl Model for HeldTargets {
     ghost use Rattle.std.specs.Prelude.{List};
-    ghost use Rattle.script_machine.specs.declared.records.TargetRecord.{TargetRecord};
+    ghost use Rattle.machine_spec.specs.declared.records.TargetRecord.{TargetRecord};
     ghost use Rattle.target_records.specs.Held.{AreHeld};
 
     ghost Value = { List TargetRecord };

@@ -2,10 +2,10 @@
 
 ghost use Rattle.std.specs.Prelude.{◌≡◌, ◌≤◌, ◌-ℤ◌, ◌+ℤ◌, ◌*ℤ◌, pos, unsigned_abs};
 ghost use Rattle.scratch_number.specs.Number.{limit, floor_by};
-ghost use Rattle.script_machine.specs.Costume as costume;
-ghost use Rattle.script_machine.specs.Looks as looks;
-ghost use Rattle.script_machine.specs.Numbers as numbers;
-ghost use Rattle.script_machine.specs.Stores.{less};
+ghost use Rattle.machine_spec.specs.Costume as costume;
+ghost use Rattle.machine_spec.specs.Looks as looks;
+ghost use Rattle.machine_spec.specs.Numbers as numbers;
+ghost use Rattle.machine_spec.specs.Stores.{less};
 
 use scratch_number::{Num, modulo, of_millionths, of_whole, order, round};
 use std::cmp::Ordering;

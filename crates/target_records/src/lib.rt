@@ -24,12 +24,12 @@ mod targets;
 pub use file_records::FileRecords;
 pub use file_targets::FileTargets;
 pub use kept::{costume_index, direction_after, size_kept};
+pub use machine_spec::{
+    InstanceId, ListRecord, ListRecords, Serial, Style, TargetId, TargetRecord, VariableRecord,
+    VariableRecords,
+};
 pub use monitors::{MonitorRecord, Monitors, read_monitors};
 pub use reading::read;
 pub use records::Records;
 pub use refusal::RecordRefusal;
-pub use script_machine::{
-    InstanceId, ListRecord, ListRecords, Serial, Style, TargetId, TargetRecord, VariableRecord,
-    VariableRecords,
-};
 pub use targets::read_targets;

@@ -2,18 +2,18 @@
 
 ghost use Rattle.std.specs.Prelude.{◌≡◌, map, codes};
 ghost use Rattle.project_json.specs.View.{tree, field};
-ghost use Rattle.project_file.specs.Targets as told;
-ghost use Rattle.shapes.specs.Reads.{Reads};
-ghost use Rattle.shapes.specs.Shapes as shape;
-ghost use Rattle.script_machine.specs.declared.instance.Style.TheVariants.{AllAround};
+ghost use Rattle.project_spec.specs.Targets as told;
+ghost use Rattle.json_shapes.specs.Reads.{Reads};
+ghost use Rattle.json_shapes.specs.Shapes as shape;
+ghost use Rattle.machine_spec.specs.declared.instance.Style.TheVariants.{AllAround};
 ghost use Rattle.target_records.specs.Looks.{look_in};
 
 use crate::kept::{direction_after, size_kept};
 use crate::members::defaulted_num;
+use json_shapes::{Fault, Place, defaulted_truth, present, text};
+use machine_spec::Style;
 use project_json::{Json, Member};
 use scratch_number::{Num, of_whole};
-use script_machine::Style;
-use shapes::{Fault, Place, defaulted_truth, present, text};
 use std::alloc::Global;
 
 // Where a target stands and how it looks.

@@ -4,14 +4,14 @@ ghost use Rattle.std.specs.Prelude.{◌≡◌, ◌<◌, ◌^◌, map, length, []
 ghost use Rattle.project_json.specs.Size.{members_size};
 ghost use Rattle.project_json.specs.Tree.{fields_of};
 ghost use Rattle.project_json.specs.View.{tree, field};
-ghost use Rattle.project_file.specs.Values as told;
-ghost use Rattle.shapes.specs.Reads.{Reads};
-ghost use Rattle.shapes.specs.Shapes as shape;
+ghost use Rattle.project_spec.specs.Values as told;
+ghost use Rattle.json_shapes.specs.Reads.{Reads};
+ghost use Rattle.json_shapes.specs.Shapes as shape;
 
-use project_file::num;
+use json_shapes::{Fault, Place, defaulted_members, present};
 use project_json::Member;
+use project_spec::num;
 use scratch_number::Num;
-use shapes::{Fault, Place, defaulted_members, present};
 use std::alloc::Global;
 
 // A number, or the default where it is absent or null.

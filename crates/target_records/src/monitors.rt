@@ -3,17 +3,17 @@
 ghost use Rattle.std.specs.Prelude.{◌≡◌, map, codes, option_map};
 ghost use Rattle.project_json.specs.Tree.{object, no_fields};
 ghost use Rattle.project_json.specs.View.{tree, field};
-ghost use Rattle.project_file.specs.Targets as told;
-ghost use Rattle.shapes.specs.Reads.{Reads};
-ghost use Rattle.shapes.specs.Shapes as shape;
+ghost use Rattle.project_spec.specs.Targets as told;
+ghost use Rattle.json_shapes.specs.Reads.{Reads};
+ghost use Rattle.json_shapes.specs.Shapes as shape;
 ghost use Rattle.target_records.specs.Reading.{monitors_of};
 ghost use Rattle.target_records.specs.Records.{monitor_in};
 
-use lists::ListOf;
-use project_json::{Json, Member, Text, read};
-use shapes::{
+use json_shapes::{
     Fault, Place, defaulted_items, defaulted_truth, members, optional_text, present, required_text,
 };
+use lists::ListOf;
+use project_json::{Json, Member, Text, read};
 use std::alloc::Global;
 
 /// A monitor of the file: what it shows, of which sprite, and whether it is shown. `params` is an object of the document.

@@ -7,15 +7,15 @@ ghost use Rattle.target_records.specs.Answers.{Answers, counts_in};
 ghost use Rattle.target_records.specs.Bounds.{Bounds};
 ghost use Rattle.target_records.specs.Reading.{records_of};
 ghost use Rattle.target_records.specs.Records.{file_records_in};
-ghost use Rattle.shapes.specs.Reads.{Reads};
+ghost use Rattle.json_shapes.specs.Reads.{Reads};
 
 use crate::file_records::FileRecords;
 use crate::monitors::read_monitors;
 use crate::records::Records;
 use crate::refusal::RecordRefusal;
 use crate::targets::read_targets;
+use json_shapes::{Fault, Place, members, required_items};
 use project_json::Json;
-use shapes::{Fault, Place, members, required_items};
 use std::alloc::Global;
 
 const MOST_TARGETS: usize = 1_000;

@@ -2,8 +2,8 @@
 
 use crate::held_targets::HeldTargets;
 use crate::monitors::Monitors;
+use machine_spec::{TargetId, TargetRecord};
 use scratch_values::VarName;
-use script_machine::{TargetId, TargetRecord};
 use std::alloc::AllocError;
 
 /// The targets of a project, in file order, and its monitors. There are fewer than 2^32 targets, each has fewer than 2^32
@@ -26,9 +26,9 @@ impl Drop for Records {
 
 impl Records {
     ghost use Rattle.std.specs.Prelude.{◌≡◌, ◌+◌, ◌<◌, ◌^◌, length, map, slice_get, OnOk, OnErr, IfOk};
-    ghost use Rattle.script_machine.specs.Lists.{changed_at};
-    ghost use Rattle.script_machine.specs.Program.{record_at, stage_number};
-    ghost use Rattle.project_file.specs.Resolving.{with_added, OfVariable, OfList};
+    ghost use Rattle.machine_spec.specs.Lists.{changed_at};
+    ghost use Rattle.machine_spec.specs.Program.{record_at, stage_number};
+    ghost use Rattle.project_spec.specs.Resolving.{with_added, OfVariable, OfList};
     ghost use Rattle.std.specs.List.{All};
     ghost use Rattle.target_records.specs.Held.{HasShortLists, IsSmall};
     ghost use Rattle.target_records.specs.Records.{monitor_in, records_in};

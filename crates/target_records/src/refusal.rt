@@ -3,10 +3,10 @@
 ghost use Rattle.std.specs.Prelude.{◌≡◌};
 ghost use Rattle.target_records.specs.declared.refusal.RecordRefusal.TheVariants.{NoMemory};
 ghost use Rattle.target_records.specs.Bounds.{refusal_of, IsTooManyAt};
-ghost use Rattle.shapes.specs.Places.{path};
+ghost use Rattle.json_shapes.specs.Places.{path};
 
+use json_shapes::{Fault, Place};
 use project_json::Text;
-use shapes::{Fault, Place};
 use std::alloc::{AllocError, AllocFailed, Global};
 
 /// Why a document has no records, in the order of the tests.

@@ -4,9 +4,9 @@ ghost use Rattle.std.specs.Prelude.{◌≡◌, ◌<◌, ◌^◌, map};
 ghost use Rattle.project_json.specs.Size.{size_of, items_size, members_size};
 ghost use Rattle.project_json.specs.Tree.{trees_of, fields_of};
 ghost use Rattle.project_json.specs.View.{tree, field};
-ghost use Rattle.project_file.specs.Targets.{target_of, target_members};
-ghost use Rattle.shapes.specs.Reads.{Reads};
-ghost use Rattle.shapes.specs.Shapes as shape;
+ghost use Rattle.project_spec.specs.Targets.{target_of, target_members};
+ghost use Rattle.json_shapes.specs.Reads.{Reads};
+ghost use Rattle.json_shapes.specs.Shapes as shape;
 
 use crate::costumes::required_costumes;
 use crate::file_lists::lists;
@@ -15,9 +15,9 @@ use crate::file_variables::variables;
 use crate::kept::costume_index;
 use crate::looks::{defaulted_style, look_of, seen};
 use crate::members::defaulted_num;
+use json_shapes::{Fault, Place, members, required_text, required_truth};
 use project_json::{Json, Member};
 use scratch_number::of_whole;
-use shapes::{Fault, Place, members, required_text, required_truth};
 use std::alloc::Global;
 
 // A target, by its members.

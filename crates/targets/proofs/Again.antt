@@ -3,8 +3,8 @@ use Rattle.std.proofs.Common.{◌≡◌, ℕ, List, get_or, set, Option, Some, N
 use Rattle.std.specs.Prelude.{◌==◌}
 use Rattle.std.specs.List.{position}
 use Rattle.std.proofs.lemmas.List.{set-set, set-get_or, get_or-set_same}
-use Rattle.script_machine.specs.declared.instance.Instance.{Instance}
-use Rattle.script_machine.specs.Stores.{no_instance, instance_at, on_instance}
+use Rattle.machine_spec.specs.declared.instance.Instance.{Instance}
+use Rattle.machine_spec.specs.Stores.{no_instance, instance_at, on_instance}
 use Rattle.targets.proofs.Places.{position_is, position-set}
 use Rattle.targets.proofs.Cast.{on_instance_is, on_instance_none, instance_at_is}
 

@@ -4,10 +4,10 @@ use Rattle.std.specs.Prelude.{◌==◌, nat_lt, unwrap_or, option_map, is_some, 
 use Rattle.std.specs.List.{position, prefix_len, find}
 use Rattle.std.proofs.lemmas.List.{length-map}
 use Rattle.std.proofs.Math.Seq.{map-set_same}
-use Rattle.script_machine.specs.declared.instance.Instance.{Instance}
-use Rattle.script_machine.specs.Stores.{live, instance_at, no_instance, on_instance}
-use Rattle.script_machine.specs.Lists.{changed_at_some}
-use Rattle.script_machine.specs.declared.bubble.Bubble.{Bubble}
+use Rattle.machine_spec.specs.declared.instance.Instance.{Instance}
+use Rattle.machine_spec.specs.Stores.{live, instance_at, no_instance, on_instance}
+use Rattle.machine_spec.specs.Lists.{changed_at_some}
+use Rattle.machine_spec.specs.declared.bubble.Bubble.{Bubble}
 use Rattle.targets.specs.Changes.{changed_by}
 use Rattle.targets.specs.declared.changes.Change.{Change}
 use Rattle.targets.specs.declared.changes.Change.TheVariants.{Place, Direction, Size, Costume, Effect, NoEffects, Visible, Style}

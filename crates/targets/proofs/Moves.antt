@@ -8,9 +8,9 @@ use Rattle.std.proofs.lemmas.List.Folds.{find-append}
 use Rattle.std.proofs.lemmas.List.Quantifiers.{position-Some}
 use Rattle.std.proofs.lemmas.Bool.{eqb-true}
 use Rattle.std.proofs.lemmas.Bool.Decides.{nat_tests}
-use Rattle.script_machine.specs.declared.instance.Instance.{Instance}
-use Rattle.script_machine.specs.Stores.{live}
-use Rattle.script_machine.specs.Stopping.{inserted_behind}
+use Rattle.machine_spec.specs.declared.instance.Instance.{Instance}
+use Rattle.machine_spec.specs.Stores.{live}
+use Rattle.machine_spec.specs.Stopping.{inserted_behind}
 use Rattle.targets.specs.Live.{IsLive, numbers}
 use Rattle.targets.proofs.Places.{find_none}
 

@@ -4,7 +4,7 @@ use Rattle.std.specs.Prelude.{◌==◌, nat_le, nat_lt, unwrap_or}
 use Rattle.std.specs.List.{position, insert, find}
 use Rattle.std.proofs.lemmas.List.Quantifiers.{position-Some}
 use Rattle.std.proofs.lemmas.Bool.Decides.{nat_tests}
-use Rattle.script_machine.specs.Frame.{with_edge, recorded}
+use Rattle.machine_spec.specs.Frame.{with_edge, recorded}
 use Rattle.targets.specs.Edges.{edge_of}
 use Rattle.targets.proofs.Places.{find_none}
 

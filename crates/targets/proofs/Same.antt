@@ -7,10 +7,10 @@ use Rattle.std.proofs.lemmas.List.Folds.{list_any-append}
 use Rattle.std.proofs.lemmas.List.Quantifiers.{position-Some}
 use Rattle.std.specs.Prelude.{option_map}
 use Rattle.std.proofs.lemmas.Bool.{cases_Bool, eqb-true}
-use Rattle.script_machine.specs.declared.instance.Instance.{Instance}
-use Rattle.script_machine.specs.Lists.{first_removed, removed_at}
-use Rattle.script_machine.specs.Stopping.{inserted_behind, placed_behind}
-use Rattle.script_machine.specs.Stores.{live, instance_at}
+use Rattle.machine_spec.specs.declared.instance.Instance.{Instance}
+use Rattle.machine_spec.specs.Lists.{first_removed, removed_at}
+use Rattle.machine_spec.specs.Stopping.{inserted_behind, placed_behind}
+use Rattle.machine_spec.specs.Stores.{live, instance_at}
 use Rattle.targets.specs.Live.{IsLive}
 use Rattle.targets.proofs.Cast.{live_is_placed, instance_at_is}
 use Rattle.targets.proofs.Moves.{inserted_behind_is}

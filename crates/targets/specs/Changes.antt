@@ -1,9 +1,9 @@
 -- What a change makes of an instance; private functions alone cite it.
-use Rattle.script_machine.specs.declared.instance.Instance.{Instance}
-use Rattle.script_machine.specs.Effects.{effect_place, no_effects}
-use Rattle.script_machine.specs.Motion.{facing, at_point}
-use Rattle.script_machine.specs.Looks.{with_effect, with_size, with_costume}
-use Rattle.script_machine.specs.Costume.{costume_index}
+use Rattle.machine_spec.specs.declared.instance.Instance.{Instance}
+use Rattle.machine_spec.specs.Effects.{effect_place, no_effects}
+use Rattle.machine_spec.specs.Motion.{facing, at_point}
+use Rattle.machine_spec.specs.Looks.{with_effect, with_size, with_costume}
+use Rattle.machine_spec.specs.Costume.{costume_index}
 use Rattle.targets.specs.declared.changes.Change.{Change}
 use Rattle.targets.specs.declared.changes.Change.TheVariants.{Place, Direction, Size, Costume, Effect, NoEffects, Visible, Style}
 

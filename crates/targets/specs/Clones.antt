@@ -1,9 +1,9 @@
 -- Which instances can be cloned.
 use Rattle.std.specs.Prelude.{ℕ, ◌+◌, ◌==◌, nat_lt, List, [], ◌∷◌, length, Bool, false, not, ◌||◌, count_by}
-use Rattle.script_machine.specs.declared.instance.Instance.{Instance}
-use Rattle.script_machine.specs.Program.{Records}
-use Rattle.script_machine.specs.Stores.{instance_at, is_on_stage}
-use Rattle.script_machine.specs.Stopping.{most_clones}
+use Rattle.machine_spec.specs.declared.instance.Instance.{Instance}
+use Rattle.machine_spec.specs.Program.{Records}
+use Rattle.machine_spec.specs.Stores.{instance_at, is_on_stage}
+use Rattle.machine_spec.specs.Stopping.{most_clones}
 
 -- an original has the place of its target as its number, and a clone has another one
 abbrev pub is_original : Instance → Bool

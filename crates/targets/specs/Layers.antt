@@ -1,6 +1,6 @@
 -- Where an instance is put in the executable order.
 use Rattle.std.specs.Prelude.{ℕ, pos, ◌+ℤ◌}
-use Rattle.script_machine.specs.Looks.{layer_kept}
+use Rattle.machine_spec.specs.Looks.{layer_kept}
 use Rattle.targets.specs.declared.layers.Place.{Place}
 use Rattle.targets.specs.declared.layers.Place.TheVariants.{Front, Back, By}
 

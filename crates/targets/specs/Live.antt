@@ -1,7 +1,7 @@
 -- Live instances, and what stays of them where some are changed.
 use Rattle.std.specs.Prelude.{◌≡◌, ℕ, List, map, IsSome, Option, option_map}
-use Rattle.script_machine.specs.declared.instance.Instance.{Instance}
-use Rattle.script_machine.specs.Stores.{live}
+use Rattle.machine_spec.specs.declared.instance.Instance.{Instance}
+use Rattle.machine_spec.specs.Stores.{live}
 
 abbrev pub IsLive : ℕ → List Instance → Type 0
 IsLive id is = IsSome (live id is)

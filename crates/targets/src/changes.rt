@@ -1,18 +1,16 @@
 //! Changes of one instance.
 
 ghost use Rattle.std.specs.Prelude.{◌≡◌, map, IfOk};
-ghost use Rattle.script_machine.specs.Effects.{effect_place};
-ghost use Rattle.script_machine.specs.Looks.{effect_kept as kept_effect};
-ghost use Rattle.script_machine.specs.Numbers.{kept_in};
-ghost use Rattle.script_machine.specs.Stores.{less};
-ghost use Rattle.script_machine.specs.Stopping.{cleared, copied as copy_of};
-ghost use Rattle.script_machine.specs.Line.{without_edges};
+ghost use Rattle.machine_spec.specs.Effects.{effect_place};
+ghost use Rattle.machine_spec.specs.Looks.{effect_kept as kept_effect};
+ghost use Rattle.machine_spec.specs.Numbers.{kept_in};
+ghost use Rattle.machine_spec.specs.Stores.{less};
+ghost use Rattle.machine_spec.specs.Stopping.{cleared, copied as copy_of};
+ghost use Rattle.machine_spec.specs.Line.{without_edges};
 ghost use Rattle.targets.specs.Changes.{changed_by};
 
+use machine_spec::{Bubble, BubbleText, Edges, Effect, Effects, Instance, InstanceId, Say, Style};
 use scratch_number::{Num, of_whole, order};
-use script_machine::{
-    Bubble, BubbleText, Edges, Effect, Effects, Instance, InstanceId, Say, Style,
-};
 use std::alloc::{AllocError, Global};
 use std::cmp::Ordering;
 use std::mem;

@@ -1,13 +1,13 @@
 //! Which instances can be cloned, and sprites by name.
 
 ghost use Rattle.std.specs.Prelude.{◌≡◌, ◌<◌, ◌+◌, ◌||◌, ◌&&◌, bytes_eq, position, nat_lt, not, length, slice_index_or};
-ghost use Rattle.script_machine.specs.Stopping.{most_clones};
-ghost use Rattle.script_machine.specs.Program.{record_at};
+ghost use Rattle.machine_spec.specs.Stopping.{most_clones};
+ghost use Rattle.machine_spec.specs.Program.{record_at};
 ghost use Rattle.target_records.specs.Records.{records_in};
 ghost use Rattle.targets.specs.Clones.{clones_in, is_of_first};
-ghost use Rattle.script_machine.specs.declared.instance.Instance.{Instance};
+ghost use Rattle.machine_spec.specs.declared.instance.Instance.{Instance};
 
-use script_machine::{Instance, TargetId, TargetRecord};
+use machine_spec::{Instance, TargetId, TargetRecord};
 use target_records::Records;
 
 // The most clones.

@@ -2,10 +2,10 @@
 
 ghost use Rattle.std.specs.Prelude.{◌≡◌, ◌≤◌, length, nat_le, Some, OnOk, OnErr};
 ghost use Rattle.std.specs.List.{position, insert};
-ghost use Rattle.script_machine.specs.Frame.{with_edge};
+ghost use Rattle.machine_spec.specs.Frame.{with_edge};
 ghost use Rattle.targets.specs.Edges.{edge_of};
 
-use script_machine::{BlockId, Edges};
+use machine_spec::{BlockId, Edges};
 use std::alloc::AllocError;
 
 // The recorded value of a block.

@@ -3,7 +3,7 @@
 ghost use Rattle.std.specs.Prelude.{◌≡◌, ◌<◌, ◌%◌, length, IfOk};
 ghost use Rattle.targets.specs.Hints.{slots, IsHinted};
 
-use script_machine::InstanceId;
+use machine_spec::InstanceId;
 use std::alloc::{AllocError, Global};
 
 // How many hints there are.

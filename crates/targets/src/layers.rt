@@ -1,7 +1,7 @@
 //! Layers: places of the executable order. The stage has the first.
 
 ghost use Rattle.std.specs.Prelude.{◌≡◌, ◌+ℤ◌, pos, min};
-ghost use Rattle.script_machine.specs.Looks.{layer_kept};
+ghost use Rattle.machine_spec.specs.Looks.{layer_kept};
 ghost use Rattle.targets.specs.Layers.{layer_to};
 
 /// Where an instance is to stand: before all, directly behind the stage, or so many places further to the front.

@@ -11,8 +11,8 @@ mod order;
 mod state;
 
 pub use layers::Place;
-pub use order::Ids;
-pub use script_machine::{
+pub use machine_spec::{
     Bubble, BubbleText, Edges, Effect, Effects, Instance, InstanceId, Say, Style, TargetId,
 };
+pub use order::Ids;
 pub use state::Targets;

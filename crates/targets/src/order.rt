@@ -2,13 +2,13 @@
 
 ghost use Rattle.std.specs.Prelude.{◌≡◌, ◌==◌, ◌≤◌, ◌<◌, ◌++◌, ◌∷◌, [], length, slice_index_or, vec_len, vec_capacity, position, IfOk, OnOk, OnErr};
 ghost use Rattle.std.specs.List.{insert, remove};
-ghost use Rattle.script_machine.specs.declared.instance.Instance.{Instance};
-ghost use Rattle.script_machine.specs.Stopping.{inserted_behind};
+ghost use Rattle.machine_spec.specs.declared.instance.Instance.{Instance};
+ghost use Rattle.machine_spec.specs.Stopping.{inserted_behind};
 ghost use Rattle.targets.specs.Live.{numbers};
 
 use crate::hints;
 use lists::ListOf;
-use script_machine::{Instance, InstanceId};
+use machine_spec::{Instance, InstanceId};
 use std::alloc::{AllocError, Global};
 use std::marker::Model;
 use std::mem;

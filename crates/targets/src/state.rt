@@ -2,18 +2,18 @@
 
 ghost use Rattle.std.specs.Prelude.{◌≡◌, ◌≢◌, ℕ, Bool, ◌-◌, ◌<◌, ◌==◌, ◌∷◌, [], ◌++◌, length, map, filter, not, nat_lt, position, is_some, IfOk, OnOk, OnErr, MatchOption, false, unwrap_or, option_map, true, IsTrue, ◌↔◌};
 ghost use Rattle.std.specs.List.{list_any};
-ghost use Rattle.script_machine.specs.declared.instance.Instance.{Instance as Seen};
-ghost use Rattle.script_machine.specs.Costume as costume;
-ghost use Rattle.script_machine.specs.Effects.{effect_place, no_effects};
-ghost use Rattle.script_machine.specs.Frame as frame;
-ghost use Rattle.script_machine.specs.Line.{without_edges};
-ghost use Rattle.script_machine.specs.Lists.{first_removed};
-ghost use Rattle.script_machine.specs.Looks.{with_effect, with_size, with_costume, at_layer, layer};
-ghost use Rattle.script_machine.specs.Motion.{facing, at_point};
-ghost use Rattle.script_machine.specs.Stopping.{copied, placed_behind, cleared};
-ghost use Rattle.script_machine.specs.Stores.{live, instance_at, on_instance, is_on_stage};
+ghost use Rattle.machine_spec.specs.declared.instance.Instance.{Instance as Seen};
+ghost use Rattle.machine_spec.specs.Costume as costume;
+ghost use Rattle.machine_spec.specs.Effects.{effect_place, no_effects};
+ghost use Rattle.machine_spec.specs.Frame as frame;
+ghost use Rattle.machine_spec.specs.Line.{without_edges};
+ghost use Rattle.machine_spec.specs.Lists.{first_removed};
+ghost use Rattle.machine_spec.specs.Looks.{with_effect, with_size, with_costume, at_layer, layer};
+ghost use Rattle.machine_spec.specs.Motion.{facing, at_point};
+ghost use Rattle.machine_spec.specs.Stopping.{copied, placed_behind, cleared};
+ghost use Rattle.machine_spec.specs.Stores.{live, instance_at, on_instance, is_on_stage};
 ghost use Rattle.targets.specs.Changes.{changed_by};
-ghost use Rattle.script_machine.specs.Program as program;
+ghost use Rattle.machine_spec.specs.Program as program;
 ghost use Rattle.target_records.specs.Records.{records_in};
 ghost use Rattle.targets.specs.Clones.{lacks_room, has_no_room};
 ghost use Rattle.targets.specs.First.{first_instances};
@@ -25,10 +25,10 @@ use crate::changes::{self, Change};
 use crate::layers::{self, Place};
 use crate::order::{self, Ids, Order};
 use crate::{clones, edges, first};
-use scratch_number::Num;
-use script_machine::{
+use machine_spec::{
     BlockId, Bubble, BubbleText, Edges, Effect, Instance, InstanceId, Say, Style, TargetId,
 };
+use scratch_number::Num;
 use std::alloc::{AllocError, Global};
 use std::marker::Model;
 use target_records::Records;
@@ -54,7 +54,7 @@ impl Drop for Targets {
 
 impl Model for Targets {
     ghost use Rattle.std.specs.Prelude.{◌≡◌, List};
-    ghost use Rattle.script_machine.specs.declared.instance.Instance.{Instance as Seen};
+    ghost use Rattle.machine_spec.specs.declared.instance.Instance.{Instance as Seen};
     ghost use Rattle.targets.specs.Live.{numbers};
 
     ghost Value = { List Seen };

@@ -7,7 +7,7 @@ use Rattle.std.proofs.lemmas.Iterator.Adapters.{position_from-zero}
 use Rattle.std.proofs.lemmas.List.Folds.{list_any_at}
 use Rattle.std.proofs.lemmas.List.Quantifiers.{position-Some}
 use Rattle.std.proofs.lemmas.Option.{get_or_from_slice_get}
-use Rattle.script_machine.specs.Threads.{is_done}
+use Rattle.machine_spec.specs.Threads.{is_done}
 use Rattle.thread_frames.specs.Threads.{Thread, is_of, is_alive_of}
 
 none_from : {X : Type 0} (p q : X → Bool) (i : ℕ) (xs : List X) → position_from p i xs ≡ None → list_any (λ x. p x && q x) xs ≡ false

@@ -3,8 +3,8 @@ use Rattle.std.proofs.Common.{◌≡◌, ◌≤◌, Bool, true, false, List, [],
 use Rattle.std.specs.Prelude.{filter, not}
 use Rattle.std.specs.List.{list_any}
 use Rattle.std.proofs.lemmas.Bool.{cases_Bool}
-use Rattle.script_machine.specs.Threads.{is_done}
-use Rattle.script_machine.specs.Places.{Places}
+use Rattle.machine_spec.specs.Threads.{is_done}
+use Rattle.machine_spec.specs.Places.{Places}
 use Rattle.thread_frames.specs.Threads.{Thread, without_done}
 
 module _ {X : Type 0} (p : X → Bool) where

@@ -2,14 +2,14 @@
 use Rattle.std.proofs.Common.{◌≡◌, ℕ, ◌+◌, ◌-◌, ◌<◌, ◌≤◌, zero, suc, List, [], ◌∷◌, length, set, sym, ap, ◌∙◌, arith, Some, slice_get, refl, inl, inr}
 use Rattle.std.specs.Prelude.{sum_by, not}
 use Rattle.std.proofs.lemmas.List.Filters.{sum_by-filter_both}
-use Rattle.script_machine.specs.Threads.{is_done}
+use Rattle.machine_spec.specs.Threads.{is_done}
 use Rattle.std.proofs.lemmas.Bool.{cases_Bool}
 use Rattle.std.proofs.lemmas.List.Sums.{sum_by-set}
 use Rattle.std.proofs.lemmas.Option.{slice_get_within, get_or_from_slice_get}
-use Rattle.script_machine.specs.declared.threads.Which.{Which}
-use Rattle.script_machine.specs.declared.threads.Which.TheVariants.{Slot, Detached}
-use Rattle.script_machine.specs.Places.{Places, at_place, put, sum_some}
-use Rattle.script_machine.specs.Keeping.{is_called}
+use Rattle.machine_spec.specs.declared.threads.Which.{Which}
+use Rattle.machine_spec.specs.declared.threads.Which.TheVariants.{Slot, Detached}
+use Rattle.machine_spec.specs.Places.{Places, at_place, put, sum_some}
+use Rattle.machine_spec.specs.Keeping.{is_called}
 use Rattle.thread_frames.specs.declared.level.Level.{Level}
 use Rattle.thread_frames.specs.Levels.{on_top, without_top, from_call, unwound}
 use Rattle.thread_frames.specs.Threads.{Thread, without_done}

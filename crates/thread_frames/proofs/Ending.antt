@@ -3,10 +3,10 @@ use Rattle.std.proofs.Common.{◌≡◌, ℕ, suc, ◌+◌, ◌<◌, ◌≤◌, 
 use Rattle.std.proofs.Math.Seq.{drop-cons}
 use Rattle.std.proofs.lemmas.List.{take_more_set, drop-set-lt, take_all, drop_all, append-nil}
 use Rattle.std.proofs.lemmas.Option.{slice_get_within, get_or_from_slice_get, slice_get_cases}
-use Rattle.script_machine.specs.declared.threads.Which.{Which}
-use Rattle.script_machine.specs.declared.threads.Which.TheVariants.{Slot}
-use Rattle.script_machine.specs.Places.{Places, on_place, put, put_some}
-use Rattle.script_machine.specs.Starting.{finished_from, finished_of}
+use Rattle.machine_spec.specs.declared.threads.Which.{Which}
+use Rattle.machine_spec.specs.declared.threads.Which.TheVariants.{Slot}
+use Rattle.machine_spec.specs.Places.{Places, on_place, put, put_some}
+use Rattle.machine_spec.specs.Starting.{finished_from, finished_of}
 use Rattle.thread_frames.specs.Threads.{Thread, frames, finish}
 use Rattle.thread_frames.specs.Stopping.{is_some_stopped, stopped}
 use Rattle.thread_frames.proofs.Counts.{put_same}

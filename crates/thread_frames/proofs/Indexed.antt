@@ -5,9 +5,9 @@ use Rattle.std.specs.List.{position_from}
 use Rattle.std.proofs.lemmas.Iterator.Adapters.{position_from-zero}
 use Rattle.std.proofs.lemmas.List.Folds.{position_or_len-set}
 use Rattle.std.proofs.lemmas.Option.{get_or_from_slice_get}
-use Rattle.script_machine.specs.declared.threads.Which.{Which}
-use Rattle.script_machine.specs.declared.threads.Which.TheVariants.{Slot, Detached}
-use Rattle.script_machine.specs.Places.{Places, put, at_place}
+use Rattle.machine_spec.specs.declared.threads.Which.{Which}
+use Rattle.machine_spec.specs.declared.threads.Which.TheVariants.{Slot, Detached}
+use Rattle.machine_spec.specs.Places.{Places, put, at_place}
 use Rattle.thread_frames.specs.declared.hat_index.HatIndex.{HatIndex}
 use Rattle.thread_frames.specs.Threads.{Thread, is_of}
 use Rattle.thread_frames.specs.Counting.{IsCount}

@@ -2,9 +2,9 @@
 use Rattle.std.proofs.Common.{◌≡◌, ℕ, ◌+◌, ◌-◌, ◌<◌, ◌≤◌, length, false, cond, sym, ap, ◌∙◌, arith, Some, Option, slice_get}
 use Rattle.std.specs.Prelude.{sum_by, slice_set}
 use Rattle.std.proofs.lemmas.Bool.{lt-ltb, le-ltb}
-use Rattle.script_machine.specs.declared.threads.Which.TheVariants.{Slot}
-use Rattle.script_machine.specs.Outcome.{Goes, Full, with_room, most_levels}
-use Rattle.script_machine.specs.Places.{Places, put, put_some, sum_some}
+use Rattle.machine_spec.specs.declared.threads.Which.TheVariants.{Slot}
+use Rattle.machine_spec.specs.Outcome.{Goes, Full, with_room, most_levels}
+use Rattle.machine_spec.specs.Places.{Places, put, put_some, sum_some}
 use Rattle.thread_frames.specs.Threads.{Thread, again, finish, without_detached}
 use Rattle.thread_frames.specs.Restarting.{restarted, restarted_by}
 use Rattle.thread_frames.specs.Counting.{open_in, IsCount}

@@ -5,11 +5,11 @@ use Rattle.std.specs.List.{list_any}
 use Rattle.std.specs.Option.{option_map}
 use Rattle.std.proofs.Math.Seq.{drop-cons}
 use Rattle.std.proofs.lemmas.List.{drop_all}
-use Rattle.script_machine.specs.declared.threads.Control.{Control}
-use Rattle.script_machine.specs.declared.threads.Control.TheVariants.{Next, Yield, YieldTick}
-use Rattle.script_machine.specs.declared.threads.Status.{Status}
-use Rattle.script_machine.specs.declared.threads.Status.TheVariants.{Running}
-use Rattle.script_machine.specs.Threads.{Listed, among, is_running, wait_for}
+use Rattle.machine_spec.specs.declared.threads.Control.{Control}
+use Rattle.machine_spec.specs.declared.threads.Control.TheVariants.{Next, Yield, YieldTick}
+use Rattle.machine_spec.specs.declared.threads.Status.{Status}
+use Rattle.machine_spec.specs.declared.threads.Status.TheVariants.{Running}
+use Rattle.machine_spec.specs.Threads.{Listed, among, is_running, wait_for}
 use Rattle.thread_frames.specs.Threads.{Thread}
 
 shown : Thread → Listed

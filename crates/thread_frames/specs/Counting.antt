@@ -1,8 +1,8 @@
 -- The count of open levels; the contracts of private functions and the invariant of `Threads` alone cite it.
 use Rattle.std.specs.Prelude.{◌≡◌, ℕ, ◌≤◌}
-use Rattle.script_machine.specs.Outcome.{most_levels}
-use Rattle.script_machine.specs.Places.{Places}
-use Rattle.script_machine.specs.Starting.{open_levels}
+use Rattle.machine_spec.specs.Outcome.{most_levels}
+use Rattle.machine_spec.specs.Places.{Places}
+use Rattle.machine_spec.specs.Starting.{open_levels}
 use Rattle.thread_frames.specs.Threads.{Thread, frames}
 
 -- the levels of all threads, the detached one included

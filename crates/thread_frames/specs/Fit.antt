@@ -2,11 +2,11 @@
 use Rattle.std.specs.Prelude.{◌≡◌, ℕ, ◌<◌, Bool, true, false, List, [], ◌∷◌, length, Option, Some, None, is_some, slice_get}
 use Rattle.opcode_table.specs.declared.kinds.Kind.{Kind}
 use Rattle.opcode_table.specs.Kinds.{kind}
-use Rattle.script_machine.specs.declared.threads.Context.{Context}
-use Rattle.script_machine.specs.Keeping.{is_called, under_fits, top_fits, empty_fits}
-use Rattle.script_machine.specs.Threads.{is_done}
-use Rattle.project_file.specs.declared.blocks.Block.{Block}
-use Rattle.project_file.specs.Trees.{Sheet, op_by}
+use Rattle.machine_spec.specs.declared.threads.Context.{Context}
+use Rattle.machine_spec.specs.Keeping.{is_called, under_fits, top_fits, empty_fits}
+use Rattle.machine_spec.specs.Threads.{is_done}
+use Rattle.project_spec.specs.declared.blocks.Block.{Block}
+use Rattle.project_spec.specs.Trees.{Sheet, op_by}
 use Rattle.thread_frames.specs.Levels.{Level, without_top, top_block}
 use Rattle.thread_frames.specs.Threads.{Thread}
 

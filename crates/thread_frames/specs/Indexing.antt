@@ -1,7 +1,7 @@
 -- Where the first thread of each hat stands; the contracts of private functions and the invariant of `Threads` alone cite it.
 use Rattle.std.specs.Prelude.{◌≡◌, ℕ, ◌==◌, ◌&&◌, Bool, true, if◌then◌else◌, List, Option, None, Some, position}
 use Rattle.std.specs.HashMap.{HashMap, get}
-use Rattle.script_machine.specs.Places.{Places}
+use Rattle.machine_spec.specs.Places.{Places}
 use Rattle.thread_frames.specs.declared.hat_index.Key.{Key}
 use Rattle.thread_frames.specs.declared.hat_index.HatIndex.{HatIndex}
 use Rattle.thread_frames.specs.Threads.{Thread, is_of}

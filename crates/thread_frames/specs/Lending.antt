@@ -1,8 +1,8 @@
 -- A thread that is lent to be changed; private functions alone cite it.
 use Rattle.std.specs.Prelude.{Option, List}
 use Rattle.std.specs.Borrow.{Lends, LendsIf, MutBor, Fml}
-use Rattle.script_machine.specs.declared.threads.Which.{Which}
-use Rattle.script_machine.specs.Places.{Places, put}
+use Rattle.machine_spec.specs.declared.threads.Which.{Which}
+use Rattle.machine_spec.specs.Places.{Places, put}
 use Rattle.thread_frames.specs.Levels.{Level}
 use Rattle.thread_frames.specs.Threads.{Thread}
 use Rattle.thread_frames.specs.contracts.table.Table as table

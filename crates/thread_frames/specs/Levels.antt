@@ -1,10 +1,10 @@
 -- The levels of a thread, the top one first, and what is done with them (scratch-vm, engine/thread.js, its stack).
 pub use Rattle.thread_frames.specs.declared.level.Level.{Level}
 use Rattle.std.specs.Prelude.{ℕ, Bool, false, if◌then◌else◌, List, [], ◌∷◌, Option, Some, None}
-use Rattle.script_machine.specs.declared.threads.Context.{Context}
-use Rattle.script_machine.specs.declared.threads.Context.TheVariants.{Fresh}
-use Rattle.script_machine.specs.Keeping.{is_called}
-use Rattle.script_machine.specs.Threads.{Params}
+use Rattle.machine_spec.specs.declared.threads.Context.{Context}
+use Rattle.machine_spec.specs.declared.threads.Context.TheVariants.{Fresh}
+use Rattle.machine_spec.specs.Keeping.{is_called}
+use Rattle.machine_spec.specs.Threads.{Params}
 
 -- a level that was just opened
 abbrev pub new_level : Option ℕ → (warp : Bool) → Level

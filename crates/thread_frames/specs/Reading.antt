@@ -1,13 +1,13 @@
 -- The levels of a thread read as what it has still to do, given the blocks of its target.
 use Rattle.std.specs.Prelude.{ℕ, Bool, true, false, List, [], ◌∷◌, ◌++◌, Option, Some, None, slice_get, unwrap_or}
-use Rattle.script_machine.specs.Script.{Statement}
-use Rattle.script_machine.specs.declared.threads.Context.{Context}
-use Rattle.script_machine.specs.declared.threads.Context.TheVariants.{Called}
-use Rattle.script_machine.specs.Threads.{Params}
-use Rattle.script_machine.specs.Pending.{Item, Held, Returned, Branch, Again, Back, dos, kept}
-use Rattle.script_machine.specs.Tasks.{Task}
-use Rattle.project_file.specs.declared.blocks.Block.{Block}
-use Rattle.project_file.specs.Trees.{Sheet, target_of_link, script, statement}
+use Rattle.machine_spec.specs.Script.{Statement}
+use Rattle.machine_spec.specs.declared.threads.Context.{Context}
+use Rattle.machine_spec.specs.declared.threads.Context.TheVariants.{Called}
+use Rattle.machine_spec.specs.Threads.{Params}
+use Rattle.machine_spec.specs.Pending.{Item, Held, Returned, Branch, Again, Back, dos, kept}
+use Rattle.machine_spec.specs.Tasks.{Task}
+use Rattle.project_spec.specs.declared.blocks.Block.{Block}
+use Rattle.project_spec.specs.Trees.{Sheet, target_of_link, script, statement}
 use Rattle.thread_frames.specs.Levels.{Level, without_top, warp_flag}
 use Rattle.thread_frames.specs.Threads.{Thread}
 

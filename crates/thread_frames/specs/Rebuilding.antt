@@ -1,6 +1,6 @@
 -- Threads that are made again from their parts.
 use Rattle.std.specs.Prelude.{List, map, reverse, None}
-use Rattle.script_machine.specs.Places.{Places}
+use Rattle.machine_spec.specs.Places.{Places}
 use Rattle.thread_frames.specs.declared.parts.ThreadPart.{ThreadPart}
 use Rattle.thread_frames.specs.Threads.{Thread}
 

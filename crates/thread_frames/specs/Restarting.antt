@@ -1,8 +1,8 @@
 -- A thread that is replaced in its slot.
 use Rattle.std.specs.Prelude.{ℕ, slice_get, Bool, Option, Some, None}
-use Rattle.script_machine.specs.Outcome.{Outcome, Goes}
-use Rattle.script_machine.specs.Places.{Places}
-use Rattle.script_machine.specs.Starting.{replaced}
+use Rattle.machine_spec.specs.Outcome.{Outcome, Goes}
+use Rattle.machine_spec.specs.Places.{Places}
+use Rattle.machine_spec.specs.Starting.{replaced}
 use Rattle.thread_frames.specs.Threads.{Thread, frames, again}
 
 abbrev pub restarted_by : (keep : Bool) → (slot serial target : ℕ) → (first : Option ℕ) → Option Thread → Places Thread → Outcome (Places Thread)

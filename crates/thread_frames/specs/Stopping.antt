@@ -1,7 +1,7 @@
 -- A thread of a slot that is ended with the others of its instance; private functions alone cite it.
 use Rattle.std.specs.Prelude.{ℕ, ◌==◌, ◌&&◌, not, Bool, false, Option, Some, None, if◌then◌else◌}
-use Rattle.script_machine.specs.declared.threads.Which.{Which}
-use Rattle.script_machine.specs.Starting.{is_spared}
+use Rattle.machine_spec.specs.declared.threads.Which.{Which}
+use Rattle.machine_spec.specs.Starting.{is_spared}
 use Rattle.thread_frames.specs.Threads.{Thread, finish}
 
 -- it is of the instance, and its slot is not spared

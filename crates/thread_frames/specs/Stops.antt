@@ -1,6 +1,6 @@
 -- What it tells that no level was opened.
 use Rattle.std.specs.Prelude.{◌≡◌, Result, Ok, Err}
-use Rattle.script_machine.specs.Outcome.{Outcome, Full}
+use Rattle.machine_spec.specs.Outcome.{Outcome, Full}
 use Rattle.thread_frames.specs.declared.stops.PushStop.{PushStop}
 use Rattle.thread_frames.specs.declared.stops.PushStop.TheVariants as stop
 

@@ -1,12 +1,12 @@
 -- The threads of a run as contracts see them, whatever keeps their levels.
 use Rattle.std.specs.Prelude.{ℕ, ◌==◌, ◌&&◌, Bool, List, [], ◌∷◌, length, map, filter, not, false, Option, Some, None}
-use Rattle.script_machine.specs.Script.{Script, End, Then, place_of}
-use Rattle.script_machine.specs.Program.{Head, hat_block}
-use Rattle.script_machine.specs.declared.threads.Status.{Status}
-use Rattle.script_machine.specs.declared.threads.Status.TheVariants.{Running, Done}
-use Rattle.script_machine.specs.Threads.{is_done, Listed}
-use Rattle.script_machine.specs.Places.{Places}
-use Rattle.script_machine.specs.Starting.{Handle}
+use Rattle.machine_spec.specs.Script.{Script, End, Then, place_of}
+use Rattle.machine_spec.specs.Program.{Head, hat_block}
+use Rattle.machine_spec.specs.declared.threads.Status.{Status}
+use Rattle.machine_spec.specs.declared.threads.Status.TheVariants.{Running, Done}
+use Rattle.machine_spec.specs.Threads.{is_done, Listed}
+use Rattle.machine_spec.specs.Places.{Places}
+use Rattle.machine_spec.specs.Starting.{Handle}
 use Rattle.thread_frames.specs.Levels.{Level, new_level}
 
 -- a thread: its number, its instance and the target of that, its hat block, how it stands, and its levels, the top one first

@@ -5,7 +5,7 @@ ghost use Rattle.thread_frames.specs.Threads.{Thread as Seen, is_of};
 ghost use Rattle.thread_frames.specs.Indexing.{AreFirst, Notes};
 
 use crate::thread::Thread;
-use script_machine::{BlockId, InstanceId};
+use machine_spec::{BlockId, InstanceId};
 use std::alloc::Global;
 use std::collections::HashMap;
 

@@ -1,7 +1,7 @@
 //! One level of a thread.
 
+use machine_spec::{BlockId, Boxed, Context};
 use scratch_values::Params;
-use script_machine::{BlockId, Boxed, Context};
 use std::mem;
 
 /// A level of a thread: the block that it holds, if any, its loop mark, its warp flag, what its block keeps, and the
@@ -17,8 +17,8 @@ pub struct Level {
 
 impl Level {
     ghost use Rattle.std.specs.Prelude.{◌≡◌};
-    ghost use Rattle.script_machine.specs.declared.threads.Context.TheVariants.{Fresh};
-    ghost use Rattle.script_machine.specs.Keeping.{is_called};
+    ghost use Rattle.machine_spec.specs.declared.threads.Context.TheVariants.{Fresh};
+    ghost use Rattle.machine_spec.specs.Keeping.{is_called};
     ghost use Rattle.thread_frames.specs.Levels.{new_level, at_next, with_loop, with_context, with_params};
 
     // A level that was just opened.

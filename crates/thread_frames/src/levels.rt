@@ -2,13 +2,13 @@
 
 ghost use Rattle.std.specs.Prelude.{◌≡◌, [], ◌∷◌, length, reverse, nat_lt, slice_get, false, OnOk, OnErr};
 ghost use Rattle.std.specs.Option.{option_copied, option_map};
-ghost use Rattle.script_machine.specs.declared.threads.Context.TheVariants.{Fresh};
+ghost use Rattle.machine_spec.specs.declared.threads.Context.TheVariants.{Fresh};
 ghost use Rattle.thread_frames.specs.Levels.{new_level, at_next, with_loop, with_context, with_params, on_top, without_top, top_context, near_params, from_call, unwound};
-ghost use Rattle.script_machine.specs.Keeping.{is_called};
+ghost use Rattle.machine_spec.specs.Keeping.{is_called};
 
 use crate::level::Level;
+use machine_spec::{BlockId, Boxed, Context};
 use scratch_values::Params;
-use script_machine::{BlockId, Boxed, Context};
 use std::alloc::{AllocError, Global};
 use std::marker::Model;
 

@@ -1,15 +1,15 @@
 //! Threads made again from their parts.
 
 ghost use Rattle.std.specs.Prelude.{◌≡◌, ◌≤◌, IfOk};
-ghost use Rattle.script_machine.specs.Outcome.{most_levels};
-ghost use Rattle.script_machine.specs.Starting.{open_levels};
+ghost use Rattle.machine_spec.specs.Outcome.{most_levels};
+ghost use Rattle.machine_spec.specs.Starting.{open_levels};
 ghost use Rattle.thread_frames.specs.Rebuilding.{threads_of};
 ghost use Rattle.thread_frames.specs.Threads.{frames};
 
 use crate::level::Level;
 use crate::thread::Thread;
 use crate::threads::Threads;
-use script_machine::{BlockId, InstanceId, Serial, Status, TargetId};
+use machine_spec::{BlockId, InstanceId, Serial, Status, TargetId};
 use std::alloc::{AllocError, Global};
 
 /// The parts of a thread: its number, its instance and the target of that, the block of its hat, how it stands, and its

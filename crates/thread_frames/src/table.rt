@@ -4,14 +4,14 @@ ghost use Rattle.std.specs.Prelude.{◌≡◌, ◌==◌, ◌&&◌, ◌<◌, ◌�
 ghost use Rattle.std.specs.Borrow.{sem};
 ghost use Rattle.std.specs.List.{list_any};
 ghost use Rattle.std.specs.Option.{option_map, option_copied};
-ghost use Rattle.script_machine.specs.Outcome.{most_levels};
-ghost use Rattle.script_machine.specs.Places.{Places, at_place, put};
-ghost use Rattle.script_machine.specs.Threads.{is_done};
+ghost use Rattle.machine_spec.specs.Outcome.{most_levels};
+ghost use Rattle.machine_spec.specs.Places.{Places, at_place, put};
+ghost use Rattle.machine_spec.specs.Threads.{is_done};
 ghost use Rattle.thread_frames.specs.Lending.{LendsThread};
 ghost use Rattle.thread_frames.specs.Threads.{no_threads, without_detached, without_done, is_of, is_alive_of};
 
 use crate::thread::Thread;
-use script_machine::{BlockId, InstanceId, Serial, Which};
+use machine_spec::{BlockId, InstanceId, Serial, Which};
 use std::alloc::{AllocError, Global};
 use std::marker::Model;
 use std::mem;
@@ -24,7 +24,7 @@ pub(crate) struct Table {
 }
 
 impl Model for Table {
-    ghost use Rattle.script_machine.specs.Places.{Places};
+    ghost use Rattle.machine_spec.specs.Places.{Places};
     ghost use Rattle.thread_frames.specs.Threads.{Thread as Seen};
 
     ghost Value = { Places Seen };

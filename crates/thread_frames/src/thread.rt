@@ -3,13 +3,13 @@
 ghost use Rattle.std.specs.Prelude.{◌≡◌, [], IfOk, OnOk, OnErr};
 ghost use Rattle.std.specs.Borrow.{sem};
 ghost use Rattle.thread_frames.specs.Lending.{LendsLevels};
-ghost use Rattle.script_machine.specs.Threads.{is_done as is_done_by};
+ghost use Rattle.machine_spec.specs.Threads.{is_done as is_done_by};
 ghost use Rattle.thread_frames.specs.Rebuilding.{thread_of};
 ghost use Rattle.thread_frames.specs.Threads.{new_thread, again, finish as finished, with_status};
 
 use crate::levels::Levels;
 use crate::parts::ThreadPart;
-use script_machine::{BlockId, InstanceId, Serial, Status, TargetId};
+use machine_spec::{BlockId, InstanceId, Serial, Status, TargetId};
 use std::alloc::{AllocError, Global};
 use std::marker::Model;
 

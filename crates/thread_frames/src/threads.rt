@@ -3,11 +3,11 @@
 ghost use Rattle.std.specs.Prelude.{◌≡◌, ℕ, ◌==◌, ◌+◌, ◌≤◌, [], ◌∷◌, ◌++◌, length, nat_lt, true, false, Some, None, slice_get, position, find, OnOk, OnErr, IfOk};
 ghost use Rattle.std.specs.List.{list_any};
 ghost use Rattle.std.specs.Option.{option_copied, option_map};
-ghost use Rattle.script_machine.specs.declared.threads.Context.TheVariants.{Fresh};
-ghost use Rattle.script_machine.specs.Threads.{among, wait_for as wait_for_by};
-ghost use Rattle.script_machine.specs.Outcome.{Goes, with_room, most_levels};
-ghost use Rattle.script_machine.specs.Places.{Places, at_place, on_place, place};
-ghost use Rattle.script_machine.specs.Starting.{open_levels, appended, finished_of, is_spared as is_spared_by};
+ghost use Rattle.machine_spec.specs.declared.threads.Context.TheVariants.{Fresh};
+ghost use Rattle.machine_spec.specs.Threads.{among, wait_for as wait_for_by};
+ghost use Rattle.machine_spec.specs.Outcome.{Goes, with_room, most_levels};
+ghost use Rattle.machine_spec.specs.Places.{Places, at_place, on_place, place};
+ghost use Rattle.machine_spec.specs.Starting.{open_levels, appended, finished_of, is_spared as is_spared_by};
 ghost use Rattle.thread_frames.specs.Levels.{new_level, at_next, with_loop, with_context, with_params, on_top, without_top, top_context, near_params, unwound};
 ghost use Rattle.thread_frames.specs.Threads.{frames, listed, no_threads, without_detached, without_done, new_thread, is_of, is_alive_of, on_levels, levels_of, with_status, finish as finished};
 ghost use Rattle.thread_frames.specs.Restarting.{restarted};
@@ -20,10 +20,8 @@ use crate::levels::Levels;
 use crate::stops::PushStop;
 use crate::table::Table;
 use crate::thread::Thread;
+use machine_spec::{BlockId, Boxed, Context, Control, InstanceId, Serial, Status, TargetId, Which};
 use scratch_values::Params;
-use script_machine::{
-    BlockId, Boxed, Context, Control, InstanceId, Serial, Status, TargetId, Which,
-};
 use std::alloc::{AllocError, Global};
 use std::marker::Model;
 use std::mem;
@@ -54,7 +52,7 @@ impl Drop for Threads {
 }
 
 impl Model for Threads {
-    ghost use Rattle.script_machine.specs.Places.{Places};
+    ghost use Rattle.machine_spec.specs.Places.{Places};
     ghost use Rattle.thread_frames.specs.Threads.{Thread as Seen};
     ghost use Rattle.thread_frames.specs.Indexing.{IsKept};
 

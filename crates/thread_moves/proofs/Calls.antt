@@ -3,16 +3,16 @@ use Rattle.std.proofs.Common.{◌≡◌, ℕ, Bool, true, false, List, ◌∷◌
 use Rattle.std.specs.Prelude.{is_some, ◌||◌}
 use Rattle.opcode_table.specs.declared.kinds.Kind.{Kind}
 use Rattle.opcode_table.specs.declared.kinds.Kind.TheVariants.{Calls}
-use Rattle.script_machine.specs.Script.{Statement}
-use Rattle.script_machine.specs.Program.{Program, Procedure, procedure}
-use Rattle.script_machine.specs.Called.{called_by, called}
-use Rattle.script_machine.specs.Threads.{Params}
-use Rattle.script_machine.specs.declared.threads.Context.TheVariants.{Called}
-use Rattle.script_machine.specs.declared.threads.Report.{Report}
-use Rattle.script_machine.specs.Keeping.{is_calls, under_fits}
-use Rattle.script_machine.specs.Pending.{Item, Back, dos, is_recursive, call_report, entered}
-use Rattle.script_machine.specs.Step.{entered_some}
-use Rattle.project_file.specs.Trees.{Sheet, target_of_link, script, call_code}
+use Rattle.machine_spec.specs.Script.{Statement}
+use Rattle.machine_spec.specs.Program.{Program, Procedure, procedure}
+use Rattle.machine_spec.specs.Called.{called_by, called}
+use Rattle.machine_spec.specs.Threads.{Params}
+use Rattle.machine_spec.specs.declared.threads.Context.TheVariants.{Called}
+use Rattle.machine_spec.specs.declared.threads.Report.{Report}
+use Rattle.machine_spec.specs.Keeping.{is_calls, under_fits}
+use Rattle.machine_spec.specs.Pending.{Item, Back, dos, is_recursive, call_report, entered}
+use Rattle.machine_spec.specs.Step.{entered_some}
+use Rattle.project_spec.specs.Trees.{Sheet, target_of_link, script, call_code}
 use Rattle.project_check.specs.declared.project.Project.{Project}
 use Rattle.project_check.specs.Loaded.{program_of, sheet_at}
 use Rattle.thread_frames.specs.declared.level.Level.{Level}

@@ -3,14 +3,14 @@ use Rattle.std.proofs.Common.{◌≡◌, ℕ, Bool, true, false, [], ◌∷◌, 
 use Rattle.std.specs.Prelude.{◌&&◌}
 use Rattle.opcode_table.specs.declared.kinds.Kind.{Kind}
 use Rattle.opcode_table.specs.declared.kinds.Kind.TheVariants.{Choice, Endless, Counted, Calls, Waits, Glides, Starts, Asks, Speaks, Plain}
-use Rattle.script_machine.specs.Script.{Statement}
-use Rattle.script_machine.specs.Threads.{Params}
-use Rattle.script_machine.specs.declared.threads.Context.{Context}
-use Rattle.script_machine.specs.declared.threads.Context.TheVariants.{Fresh, Repeat, Started, Called}
-use Rattle.script_machine.specs.Keeping.{is_called, is_calls, has_branches, may_wait, under_fits, top_fits}
-use Rattle.script_machine.specs.Pending.{Item, Again, Back, Branch, branch_marker}
-use Rattle.project_file.specs.declared.blocks.Block.{Block}
-use Rattle.project_file.specs.Trees.{Sheet}
+use Rattle.machine_spec.specs.Script.{Statement}
+use Rattle.machine_spec.specs.Threads.{Params}
+use Rattle.machine_spec.specs.declared.threads.Context.{Context}
+use Rattle.machine_spec.specs.declared.threads.Context.TheVariants.{Fresh, Repeat, Started, Called}
+use Rattle.machine_spec.specs.Keeping.{is_called, is_calls, has_branches, may_wait, under_fits, top_fits}
+use Rattle.machine_spec.specs.Pending.{Item, Again, Back, Branch, branch_marker}
+use Rattle.project_spec.specs.declared.blocks.Block.{Block}
+use Rattle.project_spec.specs.Trees.{Sheet}
 use Rattle.thread_frames.specs.Levels.{new_level}
 use Rattle.thread_frames.specs.Reading.{marker_by}
 use Rattle.thread_frames.specs.Fit.{block_at, top_at, IsHeld, IsTop}

@@ -2,16 +2,16 @@
 use Rattle.std.proofs.Common.{◌≡◌, ℕ, Bool, true, false, List, ◌∷◌, Option, Some, None, refl, sym, ap, ◌∙◌, subst}
 use Rattle.std.specs.Prelude.{slice_get}
 use Rattle.std.proofs.lemmas.Option.{slice_get_within}
-use Rattle.script_machine.specs.Script.{Statement}
-use Rattle.script_machine.specs.Threads.{Params}
-use Rattle.script_machine.specs.declared.threads.Context.{Context}
-use Rattle.script_machine.specs.declared.threads.Context.TheVariants.{Fresh, Repeat, Wait, Glide, Started, Asked, Spoken, Called}
-use Rattle.script_machine.specs.declared.threads.Report.TheVariants.{Go}
-use Rattle.script_machine.specs.Pending.{Item, Do, Held, Returned, dos, settle}
-use Rattle.project_file.specs.declared.blocks.Block.{Block}
-use Rattle.project_file.specs.Linked.{Behind}
-use Rattle.project_file.specs.Trees.{Sheet, target_of_link, script, statement}
-use Rattle.project_file.proofs.Unrolling.{script-none, script-at, held_at, next_leads, within}
+use Rattle.machine_spec.specs.Script.{Statement}
+use Rattle.machine_spec.specs.Threads.{Params}
+use Rattle.machine_spec.specs.declared.threads.Context.{Context}
+use Rattle.machine_spec.specs.declared.threads.Context.TheVariants.{Fresh, Repeat, Wait, Glide, Started, Asked, Spoken, Called}
+use Rattle.machine_spec.specs.declared.threads.Report.TheVariants.{Go}
+use Rattle.machine_spec.specs.Pending.{Item, Do, Held, Returned, dos, settle}
+use Rattle.project_spec.specs.declared.blocks.Block.{Block}
+use Rattle.project_spec.specs.Linked.{Behind}
+use Rattle.project_spec.specs.Trees.{Sheet, target_of_link, script, statement}
+use Rattle.project_spec.proofs.Unrolling.{script-none, script-at, held_at, next_leads, within}
 use Rattle.thread_frames.specs.declared.level.Level.{Level}
 use Rattle.thread_frames.specs.Reading.{first_by, plain_marker, block_items, items_at}
 use Rattle.thread_frames.specs.Fit.{IsUnder, block_at, top_at, kind_of, IsHeld, IsTop}

@@ -3,14 +3,14 @@ use Rattle.std.proofs.Common.{◌≡◌, ◌==◌, ℕ, Bool, true, false, List,
 use Rattle.std.proofs.lemmas.Bool.{cases_Bool}
 use Rattle.std.specs.Prelude.{is_some, slice_get, IfSome, ◌&&◌}
 use Rattle.std.proofs.lemmas.Option.{slice_get_within}
-use Rattle.script_machine.specs.Script.{Script, Then, Statement, branch_of}
-use Rattle.script_machine.specs.Keeping.{is_called, is_calls, has_branches, may_wait, under_fits, top_fits}
-use Rattle.script_machine.specs.declared.threads.Context.{Context}
-use Rattle.script_machine.specs.declared.threads.Report.{Report}
-use Rattle.script_machine.specs.Pending.{Item, dos, settle, unwind, kept, branch_marker}
-use Rattle.project_file.specs.declared.blocks.Block.{Block}
-use Rattle.project_file.specs.Trees.{Sheet, target_of_link, script, statement}
-use Rattle.project_file.proofs.Unrolling.{script-at}
+use Rattle.machine_spec.specs.Script.{Script, Then, Statement, branch_of}
+use Rattle.machine_spec.specs.Keeping.{is_called, is_calls, has_branches, may_wait, under_fits, top_fits}
+use Rattle.machine_spec.specs.declared.threads.Context.{Context}
+use Rattle.machine_spec.specs.declared.threads.Report.{Report}
+use Rattle.machine_spec.specs.Pending.{Item, dos, settle, unwind, kept, branch_marker}
+use Rattle.project_spec.specs.declared.blocks.Block.{Block}
+use Rattle.project_spec.specs.Trees.{Sheet, target_of_link, script, statement}
+use Rattle.project_spec.proofs.Unrolling.{script-at}
 use Rattle.thread_frames.specs.declared.level.Level.{Level}
 use Rattle.cached_blocks.specs.declared.block.CachedBlock.{CachedBlock}
 use Rattle.cached_blocks.specs.Cached.{cached_block, cached_blocks}
@@ -53,7 +53,7 @@ module _ (sheet : Sheet) (old : List Level) (k : ℕ) (ranked : IsRanked sheet) 
   no_loop e = top_loop th.before th.top.is_loop (kind_of b) th.fits e
 
   -- the statement and what follows it, however they are told
-  pub told : (f : Statement → List Item → Rattle.script_machine.specs.Pending.Position) (new : List Level) (report : Report) → IsAt sheet (f s r) new report
+  pub told : (f : Statement → List Item → Rattle.machine_spec.specs.Pending.Position) (new : List Level) (report : Report) → IsAt sheet (f s r) new report
       → (t : Statement) (rest : Script) → script sheet (Some k) ≡ Then t rest → IsAt sheet (f t (dos rest ++ beneath sheet (without_top old))) new report
   told f new report at t rest e =
       let both_are : Then s (script sheet (target_of_link th.block.next)) ≡ Then t rest = sym (script-at sheet ranked.ranks ranked.falls k th.block th.found) ∙ e in
@@ -129,8 +129,8 @@ module _ (sheet : Sheet) (old : List Level) (k : ℕ) (ranked : IsRanked sheet) 
         ready = subst (λ x. IsReadyUnless x sheet mid) (sym on) (subst (IsReadyAt sheet) (sym is) (record { fit = (top, th.below); holds = ap is_some th.holds }));
       }
     where
-      plain_kept : (c : Context) (ps : Rattle.script_machine.specs.Threads.Params) → is_called c ≡ false → first_by false c ps s ≡ kept s c
-      plain_kept Rattle.script_machine.specs.declared.threads.Context.TheVariants.Called ps h = absurd (cc)
+      plain_kept : (c : Context) (ps : Rattle.machine_spec.specs.Threads.Params) → is_called c ≡ false → first_by false c ps s ≡ kept s c
+      plain_kept Rattle.machine_spec.specs.declared.threads.Context.TheVariants.Called ps h = absurd (cc)
       plain_kept c ps h = refl
 
   pub top_stacked : AllUnder sheet (without_top old)

@@ -3,11 +3,11 @@ use Rattle.std.proofs.Common.{◌≡◌, ℕ, zero, suc, ◌+◌, ◌-◌, ◌<�
 use Rattle.std.specs.Prelude.{slice_get, ◌||◌, ◌&&◌, bytes_eq}
 use Rattle.std.proofs.Math.Seq.{drop-cons}
 use Rattle.std.proofs.lemmas.Option.{slice_get_within, get_or_from_slice_get}
-use Rattle.script_machine.specs.Script.{Script, End, Then}
-use Rattle.script_machine.specs.Keeping.{is_called}
-use Rattle.script_machine.specs.Pending.{Item, dos, is_recursive}
-use Rattle.project_file.specs.declared.blocks.Block.{Block}
-use Rattle.project_file.specs.Trees.{Sheet, target_of_link, script, statement, call_code}
+use Rattle.machine_spec.specs.Script.{Script, End, Then}
+use Rattle.machine_spec.specs.Keeping.{is_called}
+use Rattle.machine_spec.specs.Pending.{Item, dos, is_recursive}
+use Rattle.project_spec.specs.declared.blocks.Block.{Block}
+use Rattle.project_spec.specs.Trees.{Sheet, target_of_link, script, statement, call_code}
 use Rattle.thread_frames.specs.declared.level.Level.{Level}
 use Rattle.thread_frames.specs.Reading.{params_in, first_item, marker, block_items, items_at, beneath, pending}
 use Rattle.thread_frames.specs.Fit.{kind_of, IsUnder, AllUnder, AreStacked}

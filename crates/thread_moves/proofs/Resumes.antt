@@ -1,10 +1,10 @@
 -- Levels that go on behind the block that waited.
 use Rattle.std.proofs.Common.{◌≡◌, ℕ, Bool, true, false, List, [], ◌∷◌, ◌++◌, Some, None, refl, sym, ap, ◌∙◌, subst, arith}
-use Rattle.script_machine.specs.declared.threads.Report.{Report}
-use Rattle.script_machine.specs.Pending.{dos, settle}
-use Rattle.script_machine.specs.Tasks.{behind_first}
-use Rattle.project_file.specs.Trees.{Sheet, target_of_link, script, statement}
-use Rattle.project_file.proofs.Unrolling.{held_at, script-at}
+use Rattle.machine_spec.specs.declared.threads.Report.{Report}
+use Rattle.machine_spec.specs.Pending.{dos, settle}
+use Rattle.machine_spec.specs.Tasks.{behind_first}
+use Rattle.project_spec.specs.Trees.{Sheet, target_of_link, script, statement}
+use Rattle.project_spec.proofs.Unrolling.{held_at, script-at}
 use Rattle.thread_frames.specs.declared.level.Level.{Level}
 use Rattle.thread_frames.specs.Levels.{new_level, without_top, top_block, warp_flag}
 use Rattle.thread_frames.specs.Reading.{first_item, beneath, pending}

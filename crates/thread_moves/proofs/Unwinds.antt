@@ -3,14 +3,14 @@ use Rattle.std.proofs.Common.{◌≡◌, Bool, true, false, List, [], ◌∷◌,
 use Rattle.std.specs.Prelude.{nat_lt}
 use Rattle.std.proofs.lemmas.Bool.{cases_Bool}
 use Rattle.std.proofs.lemmas.Bool.Decides.{nat_tests}
-use Rattle.script_machine.specs.Script.{Script, End, Then, Statement}
-use Rattle.script_machine.specs.Keeping.{is_called}
-use Rattle.script_machine.specs.declared.threads.Context.{Context}
-use Rattle.script_machine.specs.declared.threads.Context.TheVariants.{Fresh, Repeat, Wait, Glide, Started, Asked, Spoken, Called}
-use Rattle.script_machine.specs.declared.threads.Report.{Report}
-use Rattle.script_machine.specs.declared.threads.Report.TheVariants.{Go, Ended}
-use Rattle.script_machine.specs.Pending.{Item, Back, dos, unwind}
-use Rattle.project_file.specs.Trees.{Sheet, target_of_link, script, statement}
+use Rattle.machine_spec.specs.Script.{Script, End, Then, Statement}
+use Rattle.machine_spec.specs.Keeping.{is_called}
+use Rattle.machine_spec.specs.declared.threads.Context.{Context}
+use Rattle.machine_spec.specs.declared.threads.Context.TheVariants.{Fresh, Repeat, Wait, Glide, Started, Asked, Spoken, Called}
+use Rattle.machine_spec.specs.declared.threads.Report.{Report}
+use Rattle.machine_spec.specs.declared.threads.Report.TheVariants.{Go, Ended}
+use Rattle.machine_spec.specs.Pending.{Item, Back, dos, unwind}
+use Rattle.project_spec.specs.Trees.{Sheet, target_of_link, script, statement}
 use Rattle.thread_frames.specs.declared.level.Level.{Level}
 use Rattle.thread_frames.specs.Levels.{from_call}
 use Rattle.thread_frames.specs.Reading.{params_in, first_by, first_item, marker_by, marker, beneath}
@@ -74,7 +74,7 @@ module _ (sheet : Sheet) where
     no_loop_of : is_called l.context ≡ true → l.is_loop ≡ false
     no_loop_of calls = loops l.context l.is_loop calls u.fits
       where
-        loops : (c : Context) (m : Bool) → is_called c ≡ true → Rattle.script_machine.specs.Keeping.under_fits c m (kind_of u.block) ≡ true → m ≡ false
+        loops : (c : Context) (m : Bool) → is_called c ≡ true → Rattle.machine_spec.specs.Keeping.under_fits c m (kind_of u.block) ≡ true → m ≡ false
         loops Called false h f = refl
         loops Called true h f = absurd (cc)
         loops c m h f = absurd (cc)

@@ -1,8 +1,8 @@
 -- The levels of a thread whose promise ended (scratch-vm, engine/execute.js, handlePromise).
 use Rattle.std.specs.Prelude.{◌≡◌, false, List, [], ◌∷◌, None}
-use Rattle.script_machine.specs.Pending.{Position, settle}
-use Rattle.script_machine.specs.Tasks.{behind_first}
-use Rattle.project_file.specs.Trees.{Sheet}
+use Rattle.machine_spec.specs.Pending.{Position, settle}
+use Rattle.machine_spec.specs.Tasks.{behind_first}
+use Rattle.project_spec.specs.Trees.{Sheet}
 use Rattle.thread_frames.specs.declared.level.Level.{Level}
 use Rattle.thread_frames.specs.Levels.{new_level, warp_flag}
 use Rattle.thread_frames.specs.Reading.{pending}

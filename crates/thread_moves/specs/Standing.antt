@@ -1,13 +1,13 @@
 -- Where the levels of a thread stand, given the blocks of its target.
 use Rattle.std.specs.Prelude.{◌≡◌, ℕ, ◌<◌, Bool, true, false, List, [], ◌∷◌, ◌++◌, length, Option, Some, None, is_some, slice_get, if◌then◌else◌, ◌==◌}
-use Rattle.script_machine.specs.Script.{Script, Then, Statement}
-use Rattle.script_machine.specs.Keeping.{is_called, top_fits}
-use Rattle.script_machine.specs.declared.threads.Context.{Context}
-use Rattle.script_machine.specs.declared.threads.Report.{Report}
-use Rattle.script_machine.specs.declared.threads.Report.TheVariants.{Ended}
-use Rattle.script_machine.specs.Pending.{Item, dos, Position, settle}
-use Rattle.project_file.specs.declared.blocks.Block.{Block}
-use Rattle.project_file.specs.Trees.{Sheet, script}
+use Rattle.machine_spec.specs.Script.{Script, Then, Statement}
+use Rattle.machine_spec.specs.Keeping.{is_called, top_fits}
+use Rattle.machine_spec.specs.declared.threads.Context.{Context}
+use Rattle.machine_spec.specs.declared.threads.Report.{Report}
+use Rattle.machine_spec.specs.declared.threads.Report.TheVariants.{Ended}
+use Rattle.machine_spec.specs.Pending.{Item, dos, Position, settle}
+use Rattle.project_spec.specs.declared.blocks.Block.{Block}
+use Rattle.project_spec.specs.Trees.{Sheet, script}
 use Rattle.cached_blocks.specs.declared.block.CachedBlock.{CachedBlock}
 use Rattle.thread_frames.specs.declared.level.Level.{Level}
 use Rattle.thread_frames.specs.Levels.{without_top, top_block, warp_flag}

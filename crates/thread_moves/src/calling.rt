@@ -4,11 +4,11 @@ ghost use Rattle.std.specs.Prelude.{◌≡◌, ◌≤◌, ◌+◌, ◌&&◌, len
 ghost use Rattle.opcode_table.specs.Kinds.{kind};
 ghost use Rattle.cached_blocks.specs.declared.block.CachedBlock.{CachedBlock};
 ghost use Rattle.cached_blocks.specs.Cached.{cached_blocks};
-ghost use Rattle.project_file.specs.Trees.{call_code};
-ghost use Rattle.script_machine.specs.Called.{called};
-ghost use Rattle.script_machine.specs.Keeping.{is_called, is_calls};
-ghost use Rattle.script_machine.specs.Pending as machine;
-ghost use Rattle.script_machine.specs.Step.{entered_some};
+ghost use Rattle.project_spec.specs.Trees.{call_code};
+ghost use Rattle.machine_spec.specs.Called.{called};
+ghost use Rattle.machine_spec.specs.Keeping.{is_called, is_calls};
+ghost use Rattle.machine_spec.specs.Pending as machine;
+ghost use Rattle.machine_spec.specs.Step.{entered_some};
 ghost use Rattle.project_check.specs.Loaded.{program_of, sheet_at};
 ghost use Rattle.thread_frames.specs.Fit.{IsUnder, AreStacked};
 ghost use Rattle.thread_frames.specs.Levels.{warp_flag};
@@ -18,9 +18,9 @@ ghost use Rattle.thread_moves.specs.Standing.{MovesTo, TopHolds, is_ended};
 use crate::linked::linked;
 use crate::moving::is_warp;
 use crate::settling::settle;
+use machine_spec::{BlockId, Boxed, Context, Report, TargetId};
 use project_check::Project;
 use scratch_values::Params;
-use script_machine::{BlockId, Boxed, Context, Report, TargetId};
 use std::alloc::AllocError;
 use thread_frames::{Level, Levels};
 

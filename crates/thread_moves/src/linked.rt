@@ -7,8 +7,8 @@ ghost use Rattle.thread_moves.specs.Ranked.{IsRanked};
 ghost use Rattle.thread_moves.specs.Standing.{branch_link};
 
 use cached_blocks::CachedBlock;
+use machine_spec::{BlockId, TargetId};
 use project_check::Project;
-use script_machine::{BlockId, TargetId};
 
 // A block of a target, where a rank falls along every link.
 #[inline]

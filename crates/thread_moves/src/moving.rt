@@ -4,10 +4,10 @@ ghost use Rattle.std.specs.Prelude.{◌≡◌, ◌≤◌, ◌+◌, ◌∷◌, le
 ghost use Rattle.opcode_table.specs.Kinds.{kind};
 ghost use Rattle.cached_blocks.specs.declared.block.CachedBlock.{CachedBlock};
 ghost use Rattle.cached_blocks.specs.Cached.{cached_blocks};
-ghost use Rattle.script_machine.specs.Keeping.{has_branches, may_wait, top_fits, under_fits};
-ghost use Rattle.script_machine.specs.Pending as machine;
-ghost use Rattle.script_machine.specs.declared.threads.Control.TheVariants as control;
-ghost use Rattle.script_machine.specs.Step.{position};
+ghost use Rattle.machine_spec.specs.Keeping.{has_branches, may_wait, top_fits, under_fits};
+ghost use Rattle.machine_spec.specs.Pending as machine;
+ghost use Rattle.machine_spec.specs.declared.threads.Control.TheVariants as control;
+ghost use Rattle.machine_spec.specs.Step.{position};
 ghost use Rattle.project_check.specs.Loaded.{program_of, sheet_at};
 ghost use Rattle.thread_frames.specs.Levels.{warp_flag};
 ghost use Rattle.thread_moves.specs.Standing.{TopHolds, MovesTo, is_ended};
@@ -15,8 +15,8 @@ ghost use Rattle.thread_moves.specs.Standing.{TopHolds, MovesTo, is_ended};
 use crate::linked::{branch, linked};
 use crate::settling::settle;
 use cached_blocks::{a_script_is_told, links_fall};
+use machine_spec::{BlockId, Context, Report, TargetId};
 use project_check::Project;
-use script_machine::{BlockId, Context, Report, TargetId};
 use std::alloc::AllocError;
 use thread_frames::Levels;
 

@@ -8,8 +8,8 @@ ghost use Rattle.thread_moves.specs.Resuming.{IsResumed, kept_open};
 
 use crate::linked::linked;
 use crate::moving::go_on;
+use machine_spec::{BlockId, TargetId};
 use project_check::Project;
-use script_machine::{BlockId, TargetId};
 use std::alloc::AllocError;
 use thread_frames::Levels;
 

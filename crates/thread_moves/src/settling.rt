@@ -1,7 +1,7 @@
 //! Levels without a block are left.
 
 ghost use Rattle.std.specs.Prelude.{◌≡◌, ◌<◌, ◌≤◌, length, IfSome, IfNone};
-ghost use Rattle.script_machine.specs.Pending as machine;
+ghost use Rattle.machine_spec.specs.Pending as machine;
 ghost use Rattle.project_check.specs.Loaded.{sheet_at};
 ghost use Rattle.thread_frames.specs.Fit.{AreFit};
 ghost use Rattle.thread_frames.specs.Levels.{warp_flag};
@@ -9,8 +9,8 @@ ghost use Rattle.thread_frames.specs.Reading.{pending};
 ghost use Rattle.thread_moves.specs.Standing.{IsAt, IsCovered, SettlesAlike};
 
 use crate::linked::linked;
+use machine_spec::{Report, TargetId};
 use project_check::Project;
-use script_machine::{Report, TargetId};
 use thread_frames::Levels;
 
 // Leaves a top level without a block: the one under it is a loop, goes on, or is not there.

@@ -1,7 +1,7 @@
 //! Each public function once: effects are seven numbers apart, and a new bubble has no text.
 
+use machine_spec::{BubbleText, Effect, Effects};
 use scratch_number::of_whole;
-use script_machine::{BubbleText, Effect, Effects};
 
 static EFFECTS: [Effect; 7] = [
     Effect::Color,

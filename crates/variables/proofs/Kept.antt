@@ -6,8 +6,8 @@ use Rattle.std.proofs.lemmas.List.{length-set, set-set, set-get_or, set_past}
 use Rattle.std.proofs.lemmas.List.Elements.{All-set}
 use Rattle.std.proofs.lemmas.Option.{get_or_from_slice_get, slice_get_within, slice_get_cases}
 use Rattle.scratch_values.specs.declared.value.Value.{Value}
-use Rattle.script_machine.specs.declared.variables.Store.{Store}
-use Rattle.script_machine.specs.Stores.{Variables}
+use Rattle.machine_spec.specs.declared.variables.Store.{Store}
+use Rattle.machine_spec.specs.Stores.{Variables}
 use Rattle.variables.specs.Held.{items_at}
 use Rattle.variables.specs.Kept.{IsShort, HasShortLists, IsKept, IsAlike}
 use Rattle.variables.proofs.Places.{position_is}

@@ -5,7 +5,7 @@ use Rattle.std.proofs.lemmas.List.{take_all, take-append-le, take-take, length-t
 use Rattle.std.proofs.lemmas.List.Edits.{length-insert}
 use Rattle.std.proofs.Math.Seq.{take-append-add}
 use Rattle.scratch_values.specs.declared.value.Value.{Value}
-use Rattle.script_machine.specs.DataRows.{most_items}
+use Rattle.machine_spec.specs.DataRows.{most_items}
 use Rattle.variables.specs.Kept.{IsShort}
 
 module _ {X : Type 0} where

@@ -9,7 +9,7 @@ use Rattle.std.proofs.lemmas.List.Folds.{find_at}
 use Rattle.std.proofs.lemmas.Option.{slice_get-get_or, slice_get_past}
 use Rattle.std.proofs.lemmas.Bool.{cases_Bool}
 use Rattle.std.proofs.lemmas.Bool.Decides.{nat_tests}
-use Rattle.script_machine.specs.Lists.{first_changed, changed_at_some, set_some}
+use Rattle.machine_spec.specs.Lists.{first_changed, changed_at_some, set_some}
 
 pub position_is : {X : Type 0} (p : X → Bool) (xs : List X) (i : ℕ) (d : X) → position p xs ≡ Some i → (position_or_len p xs ≡ i) × (i < length xs)
 position_is p xs i d e =

@@ -6,9 +6,9 @@ use Rattle.scratch_values.specs.Casts.{zero_number}
 use Rattle.scratch_values.specs.declared.value.Value.{Value}
 use Rattle.scratch_values.specs.declared.value.Value.TheVariants.{Number}
 use Rattle.std.specs.List.{position, find}
-use Rattle.script_machine.specs.declared.variables.Store.{Store}
-use Rattle.script_machine.specs.Stores.{Variables, store_at, on_store, value_in, items_in}
-use Rattle.script_machine.specs.DataRows.{value_set, items_set}
+use Rattle.machine_spec.specs.declared.variables.Store.{Store}
+use Rattle.machine_spec.specs.Stores.{Variables, store_at, on_store, value_in, items_in}
+use Rattle.machine_spec.specs.DataRows.{value_set, items_set}
 use Rattle.variables.specs.Held.{HasValue, HasItems, HasSameShape, value_at, items_at}
 use Rattle.variables.specs.Kept.{IsAlike}
 use Rattle.variables.proofs.Places.{find_is, find_none, first_changed_is}

@@ -3,10 +3,10 @@ use Rattle.std.proofs.Common.{ℕ, ◌+◌, ◌∷◌, [], List, map, take, drop
 use Rattle.std.specs.List.{All, enumerate_from, filter, remove}
 use Rattle.std.proofs.lemmas.List.Elements.{All-nil, All-cons, All-head, All-tail, All-map, All-append, All-take, All-drop, All-filter}
 use Rattle.scratch_values.specs.declared.value.Value.{Value}
-use Rattle.script_machine.specs.declared.records.TargetRecord.{TargetRecord}
-use Rattle.script_machine.specs.declared.records.ListRecord.{ListRecord}
-use Rattle.script_machine.specs.declared.variables.Store.{Store}
-use Rattle.script_machine.specs.First.{store}
+use Rattle.machine_spec.specs.declared.records.TargetRecord.{TargetRecord}
+use Rattle.machine_spec.specs.declared.records.ListRecord.{ListRecord}
+use Rattle.machine_spec.specs.declared.variables.Store.{Store}
+use Rattle.machine_spec.specs.First.{store}
 use Rattle.target_records.specs.Held as records
 use Rattle.variables.specs.First.{stores_of}
 use Rattle.variables.specs.Kept.{IsShort, HasShortLists, IsKept}

@@ -1,7 +1,7 @@
 -- Stores of different instances.
 use Rattle.std.specs.Prelude.{◌≡◌, ℕ, ◌==◌, List, [], ◌∷◌, map, false}
 use Rattle.std.specs.List.{list_any}
-use Rattle.script_machine.specs.declared.variables.Store.{Store}
+use Rattle.machine_spec.specs.declared.variables.Store.{Store}
 
 abbrev pub numbers : List Store → List ℕ
 numbers stores = map (λ s. s.of) stores

@@ -1,11 +1,11 @@
 -- The variables, lists and monitors with which a run begins.
 use Rattle.std.specs.Prelude.{List, [], map}
 use Rattle.std.specs.List.{enumerate_from}
-use Rattle.script_machine.specs.declared.records.TargetRecord.{TargetRecord}
-use Rattle.script_machine.specs.declared.variables.Store.{Store}
-use Rattle.script_machine.specs.Program.{Records}
-use Rattle.script_machine.specs.Stores.{Variables}
-use Rattle.script_machine.specs.First.{store}
+use Rattle.machine_spec.specs.declared.records.TargetRecord.{TargetRecord}
+use Rattle.machine_spec.specs.declared.variables.Store.{Store}
+use Rattle.machine_spec.specs.Program.{Records}
+use Rattle.machine_spec.specs.Stores.{Variables}
+use Rattle.machine_spec.specs.First.{store}
 
 abbrev pub stores_of : List TargetRecord → List Store
 stores_of targets = map (λ x. store x.0 x.1) (enumerate_from 0 targets)

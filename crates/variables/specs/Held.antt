@@ -3,8 +3,8 @@ use Rattle.std.specs.Prelude.{◌≡◌, ℕ, ◌<◌, ◌==◌, List, [], lengt
 use Rattle.scratch_values.specs.Casts.{zero_number}
 use Rattle.scratch_values.specs.declared.value.Value.{Value}
 use Rattle.scratch_values.specs.declared.value.Value.TheVariants.{Number}
-use Rattle.script_machine.specs.declared.variables.Store.{Store}
-use Rattle.script_machine.specs.Stores.{Variables, store_at}
+use Rattle.machine_spec.specs.declared.variables.Store.{Store}
+use Rattle.machine_spec.specs.Stores.{Variables, store_at}
 
 abbrev pub value_at : ℕ → Store → Value
 value_at index s = unwrap_or (slice_get s.values index) (Number zero_number)

@@ -5,8 +5,8 @@ use Rattle.std.specs.List.{All}
 use Rattle.scratch_values.specs.Casts.{zero_number}
 use Rattle.scratch_values.specs.declared.value.Value.{Value}
 use Rattle.scratch_values.specs.declared.value.Value.TheVariants.{Number}
-use Rattle.script_machine.specs.declared.variables.Store.{Store}
-use Rattle.script_machine.specs.DataRows.{most_items}
+use Rattle.machine_spec.specs.declared.variables.Store.{Store}
+use Rattle.machine_spec.specs.DataRows.{most_items}
 use Rattle.variables.specs.Distinct.{numbers, IsDistinct}
 
 -- a list has no more items than a list may have, and no list of a store has more

@@ -1,8 +1,8 @@
 -- Variables that are made again from their parts.
 use Rattle.std.specs.Prelude.{List}
 use Rattle.std.specs.List.{All}
-use Rattle.script_machine.specs.declared.variables.Store.{Store}
-use Rattle.script_machine.specs.Stores.{Variables}
+use Rattle.machine_spec.specs.declared.variables.Store.{Store}
+use Rattle.machine_spec.specs.Stores.{Variables}
 use Rattle.variables.specs.declared.parts.VariableParts.{VariableParts}
 use Rattle.variables.specs.Distinct.{numbers, IsDistinct}
 use Rattle.variables.specs.Kept.{HasShortLists}

@@ -2,13 +2,13 @@
 
 ghost use Rattle.std.specs.Prelude.{◌≡◌, map, IfOk};
 ghost use Rattle.std.specs.List.{enumerate_from};
-ghost use Rattle.script_machine.specs.First.{store as first_store};
+ghost use Rattle.machine_spec.specs.First.{store as first_store};
 ghost use Rattle.variables.specs.First.{stores_of};
 
 use crate::state::Truths;
 use lists::ListOf;
+use machine_spec::{InstanceId, ListRecords, Store, TargetRecord, VariableRecords};
 use scratch_values::{ValueLists, Values};
-use script_machine::{InstanceId, ListRecords, Store, TargetRecord, VariableRecords};
 use std::alloc::{AllocError, Global};
 use target_records::Monitors;
 

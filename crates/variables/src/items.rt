@@ -2,7 +2,7 @@
 
 ghost use Rattle.std.specs.Prelude.{◌≡◌, ◌≤◌, ◌∷◌, ◌++◌, take, drop, length, OnOk, OnErr};
 ghost use Rattle.std.specs.List.{insert};
-ghost use Rattle.script_machine.specs.DataRows.{added as with_added, inserted as with_inserted, replaced as with_replaced, deleted as with_deleted, most_items};
+ghost use Rattle.machine_spec.specs.DataRows.{added as with_added, inserted as with_inserted, replaced as with_replaced, deleted as with_deleted, most_items};
 ghost use Rattle.scratch_values.specs.declared.index.Index.TheVariants.{At};
 ghost use Rattle.variables.specs.Kept.{IsShort};
 

@@ -8,6 +8,6 @@ mod parts;
 mod state;
 mod store;
 
+pub use machine_spec::{Made, MadeList, Shown, Store, Stores};
 pub use parts::VariableParts;
-pub use script_machine::{Made, MadeList, Shown, Store, Stores};
 pub use state::{Truths, Variables};

@@ -1,15 +1,15 @@
 //! What monitors show.
 
 ghost use Rattle.std.specs.Prelude.{◌≡◌, ◌&&◌, not, bytes_eq, position, option_map, ◌<◌, ◌^◌, length, IfSome, OnOk, OnErr};
-ghost use Rattle.script_machine.specs.declared.variables.Shown.TheVariants.{Variable, List as Items};
-ghost use Rattle.script_machine.specs.Monitors as monitors;
-ghost use Rattle.script_machine.specs.Program.{sprite_named as named};
-ghost use Rattle.script_machine.specs.Lists.{changed_at};
+ghost use Rattle.machine_spec.specs.declared.variables.Shown.TheVariants.{Variable, List as Items};
+ghost use Rattle.machine_spec.specs.Monitors as monitors;
+ghost use Rattle.machine_spec.specs.Program.{sprite_named as named};
+ghost use Rattle.machine_spec.specs.Lists.{changed_at};
 ghost use Rattle.variables.specs.Shown.{shown_by};
 ghost use Rattle.target_records.specs.Records.{monitor_in, records_in};
 
+use machine_spec::{ListRecords, Made, MadeList, Shown, TargetId, TargetRecord, VariableRecords};
 use project_json::Text;
-use script_machine::{ListRecords, Made, MadeList, Shown, TargetId, TargetRecord, VariableRecords};
 use std::alloc::AllocError;
 use target_records::{MonitorRecord, Records};
 

@@ -1,7 +1,7 @@
 //! The parts of variables, as a saved run names them.
 
 use crate::state::Truths;
-use script_machine::{MadeList, Stores};
+use machine_spec::{MadeList, Stores};
 
 /// What the variables of a run hold: the store of each instance, whether each monitor of the file is visible, in the order
 /// of the file, and the monitors that blocks added, in the order of adding.

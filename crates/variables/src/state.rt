@@ -5,10 +5,10 @@ ghost use Rattle.scratch_number.specs.Arithmetic.{add as sum_of};
 ghost use Rattle.scratch_values.specs.Casts.{number as number_of};
 ghost use Rattle.scratch_values.specs.declared.index.Index.TheVariants.{At};
 ghost use Rattle.scratch_values.specs.declared.value.Value.TheVariants.{Number};
-ghost use Rattle.script_machine.specs.Lists.{first_removed};
-ghost use Rattle.script_machine.specs.Stores.{store_at, value_in, items_in};
-ghost use Rattle.script_machine.specs.DataRows.{value_set, items_set, added, inserted, deleted, replaced, most_items};
-ghost use Rattle.script_machine.specs.Monitors.{monitor_set};
+ghost use Rattle.machine_spec.specs.Lists.{first_removed};
+ghost use Rattle.machine_spec.specs.Stores.{store_at, value_in, items_in};
+ghost use Rattle.machine_spec.specs.DataRows.{value_set, items_set, added, inserted, deleted, replaced, most_items};
+ghost use Rattle.machine_spec.specs.Monitors.{monitor_set};
 ghost use Rattle.target_records.specs.Records.{records_in};
 ghost use Rattle.variables.specs.First.{first_variables};
 ghost use Rattle.variables.specs.Held.{HasStore, HasNoStore, HasValue, HasItems, HasSameShape};
@@ -18,9 +18,9 @@ ghost use Rattle.variables.specs.Parts.{variables_of, AreStores};
 use crate::parts::VariableParts;
 use crate::{first, monitors, store};
 use lists::ListOf;
+use machine_spec::{InstanceId, MadeList, Shown, Store, Stores};
 use scratch_number::{Num, of_whole};
 use scratch_values::{Value, Values};
-use script_machine::{InstanceId, MadeList, Shown, Store, Stores};
 use std::alloc::{AllocError, Global};
 use std::marker::Model;
 use target_records::Records;
@@ -58,7 +58,7 @@ impl Drop for Variables {
 }
 
 impl Model for Variables {
-    ghost use Rattle.script_machine.specs.Stores.{Variables as Seen};
+    ghost use Rattle.machine_spec.specs.Stores.{Variables as Seen};
     ghost use Rattle.variables.specs.Kept.{IsKept};
 
     ghost Value = { Seen };

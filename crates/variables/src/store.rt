@@ -5,14 +5,14 @@ ghost use Rattle.scratch_number.specs.Arithmetic.{add as sum_of};
 ghost use Rattle.scratch_values.specs.Casts.{number as number_of};
 ghost use Rattle.scratch_values.specs.declared.index.Index.TheVariants.{At};
 ghost use Rattle.scratch_values.specs.declared.value.Value.TheVariants.{Number};
-ghost use Rattle.script_machine.specs.DataRows.{added, deleted, inserted, replaced};
+ghost use Rattle.machine_spec.specs.DataRows.{added, deleted, inserted, replaced};
 ghost use Rattle.variables.specs.Held.{value_at, items_at};
 ghost use Rattle.variables.specs.Kept.{IsAlike, HasShortLists};
 
 use crate::items;
+use machine_spec::{InstanceId, Store};
 use scratch_number::{Num, add};
 use scratch_values::{Value, ValueLists, Values, to_number};
-use script_machine::{InstanceId, Store};
 use std::alloc::{AllocError, Global};
 
 // The place of the first store of an instance.

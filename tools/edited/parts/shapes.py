@@ -85,7 +85,7 @@ for what, change in (
     row('S1', 'S1', what, bytes_of(change))
 
 # These are JSON texts by RFC 8259, and docs/formats.md names no fault of theirs. They are S1 by the definition of what is read,
-# `Reads` of crates/saved_rules/specs/Refusals.antt: its `read` gives no value for a number beyond the floats of 64 bits, nor for
+# `Reads` of crates/saved_spec/specs/Refusals.antt: its `read` gives no value for a number beyond the floats of 64 bits, nor for
 # an escaped surrogate without its partner.
 for number in ('1e400', '-1e400', '9' * 400):
     for name in ('clock', 'seed', 'version'):

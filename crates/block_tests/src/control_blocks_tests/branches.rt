@@ -2,8 +2,8 @@
 
 use super::Given::{Of, Text, Truth};
 use super::{ANN, Given, World, executed, opened, said, word};
+use machine_spec::{Context, Control};
 use opcode_table::Opcode;
-use script_machine::{Context, Control};
 use std::process::Abort;
 
 // The blocks of a condition, with what each does where it holds and where it does not.

@@ -2,10 +2,10 @@
 
 use super::Given::{Of, Text};
 use super::{ANN, BEN, STAGE, World, executed, opened, said, word};
+use machine_spec::{BlockId, Context, Control, InstanceId};
 use opcode_table::Opcode;
 use scratch_number::{Num, of_whole};
 use scratch_values::{Params, to_number};
-use script_machine::{BlockId, Context, Control, InstanceId};
 use std::process::Abort;
 
 // The options of `stop`; another one stops nothing.

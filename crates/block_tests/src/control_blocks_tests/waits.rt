@@ -2,10 +2,10 @@
 
 use super::Given::{Of, Text};
 use super::{ANN, BEN, Given, STAGE, World, executed, opened, word};
-use opcode_table::Opcode;
-use script_machine::{
+use machine_spec::{
     BlockId, Boxed, Context, Control, Filter, InstanceId, Serial, Serials, Status, TargetId, Which,
 };
+use opcode_table::Opcode;
 use std::process::Abort;
 
 fn at(rt: &impl Abort, world: &mut World, ms: u64) {

@@ -2,10 +2,10 @@
 
 use super::Given::{Of, Text, Truth};
 use super::{ANN, BEN, Given, STAGE, World, executed, has_items, opened, run};
+use machine_spec::{Made, Shown, TargetId};
 use opcode_table::Opcode;
 use scratch_number::{of_millionths, of_whole};
 use scratch_values::{Value, VarRef, to_number, to_text};
-use script_machine::{Made, Shown, TargetId};
 use script_words::{CounterKind, Stop, pcg};
 use std::process::Abort;
 

@@ -1,11 +1,11 @@
 //! Each reader of a member, at each kind of value.
 
-use project_json::{Json, Member, read};
-use shapes::{
+use json_shapes::{
     Fault, Place, defaulted_items, defaulted_members, defaulted_truth, digits, given_members,
     given_truth, item, members, optional_text, present, required, required_items, required_members,
     required_text, required_truth,
 };
+use project_json::{Json, Member, read};
 use std::alloc::Global;
 use std::test::Fail;
 
@@ -115,7 +115,7 @@ fn item_path(alloc: Global, items: &[Json], i: usize) -> Result<bool, Fail> {
 fn items_are_found_by_place(rt: HostRuntime) -> Result<(), Fail> {
     let json = read(rt.alloc(), b"[0,1]")?;
     let root = Place::root();
-    let items = shapes::items(rt.alloc(), &root, &json).map_err(|_| "items")?;
+    let items = json_shapes::items(rt.alloc(), &root, &json).map_err(|_| "items")?;
     assert!(rt; item_path(rt.alloc(), items, 0)?);
     assert!(rt; item_path(rt.alloc(), items, 1)?);
     assert!(rt; !item_path(rt.alloc(), items, 2)?);

@@ -2,16 +2,16 @@
 
 ghost use Rattle.std.specs.Prelude.{◌≡◌, map, codes};
 ghost use Rattle.project_json.specs.View.{tree, field};
-ghost use Rattle.shapes.specs.Shapes.{each, each_member, optional};
-ghost use Rattle.shapes.specs.Shapes as shape;
-ghost use Rattle.shapes.specs.Example.{costume_of, costumes_of, variable_of, variables_of, sprite_of};
-ghost use Rattle.shapes.specs.Reads.{Reads};
+ghost use Rattle.json_shapes.specs.Shapes.{each, each_member, optional};
+ghost use Rattle.json_shapes.specs.Shapes as shape;
+ghost use Rattle.json_shapes.specs.Example.{costume_of, costumes_of, variable_of, variables_of, sprite_of};
+ghost use Rattle.json_shapes.specs.Reads.{Reads};
 
-use project_json::{Json, Member, Text, read};
-use shapes::{
+use json_shapes::{
     Fault, Place, defaulted_members, defaulted_truth, item_text, items, members, optional_text,
     required, required_text,
 };
+use project_json::{Json, Member, Text, read};
 use std::alloc::Global;
 use std::process::Abort;
 use std::test::Fail;

@@ -1,7 +1,7 @@
 //! Levels and threads that are made again.
 
 use super::{CAT, DOG, FIRST, FLAG, INNER, KEY, SPRITE, block_at, serial_at, status_at};
-use script_machine::{BlockId, Context, Serial, Status, Which};
+use machine_spec::{BlockId, Context, Serial, Status, Which};
 use thread_frames::{Level, Levels, ThreadPart, Threads};
 
 // A level that was just opened.

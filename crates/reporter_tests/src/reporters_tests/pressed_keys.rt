@@ -2,8 +2,8 @@
 
 use super::Given::{Of, Text, Truth};
 use super::{Given, NO_FIELD, World, gives_in, hold, of_one, opened};
+use machine_spec::Key;
 use opcode_table::Opcode;
-use script_machine::Key;
 use std::process::Abort;
 
 // What is asked for, the keys that are held, and whether it is pressed.

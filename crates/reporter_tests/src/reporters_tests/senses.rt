@@ -4,8 +4,8 @@ use super::Given::{Inf, Nan, NegInf, Of, Text, Truth};
 use super::{
     ANN, BEN, Given, NO_FIELD, NO_INPUT, World, gives, gives_in, hold, number, of_one, opened,
 };
+use machine_spec::InstanceId;
 use opcode_table::Opcode;
-use script_machine::InstanceId;
 use std::process::Abort;
 
 // Where one sprite stands, where another does, and how far they are apart.

@@ -5,9 +5,9 @@ use super::{
     ANN, BEN, Given, INFINITY, MINUS_INFINITY, NO_FIELD, NO_INPUT, PROJECT, STAGE, World, number,
     opened, run,
 };
+use machine_spec::{Effect, InstanceId};
 use opcode_table::Opcode;
 use scratch_number::Num;
-use script_machine::{Effect, InstanceId};
 use std::process::Abort;
 
 fn size_of(rt: &impl Abort, world: &World, of: InstanceId) -> Num {

@@ -5,8 +5,8 @@ use super::{
     ANN, BEN, Given, INFINITY, MINUS_INFINITY, NO_FIELD, NO_INPUT, PROJECT, World, executed,
     number, opened, run,
 };
+use machine_spec::{Context, Control, InstanceId, Say};
 use opcode_table::Opcode;
-use script_machine::{Context, Control, InstanceId, Say};
 use script_words::pcg;
 use std::process::Abort;
 

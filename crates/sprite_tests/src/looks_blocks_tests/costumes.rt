@@ -4,10 +4,10 @@ use super::Given::{Of, Text, Truth};
 use super::{
     ANN, Given, INFINITY, NO_FIELD, NO_INPUT, PROJECT, STAGE, World, executed, opened, run,
 };
-use opcode_table::Opcode;
-use script_machine::{
+use machine_spec::{
     BlockId, Boxed, Context, Control, Filter, InstanceId, Serial, Serials, TargetId,
 };
+use opcode_table::Opcode;
 use script_words::pcg;
 use std::process::Abort;
 

@@ -2,8 +2,8 @@
 
 use super::Given::{Of, Text};
 use super::{ANN, CAT, INFINITY, Input, NO_INPUT, World, executed, is_at, number, opened, put};
+use machine_spec::{Boxed, Context, Control, GlideState};
 use opcode_table::Opcode;
-use script_machine::{Boxed, Context, Control, GlideState};
 use script_words::pcg;
 use std::process::Abort;
 

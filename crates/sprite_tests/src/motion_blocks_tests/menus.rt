@@ -4,8 +4,8 @@ use super::Given::Text;
 use super::{
     ANN, CAT, Given, INFINITY, NO_INPUT, direction, executed, is_at, number, opened, put, run,
 };
+use machine_spec::{Context, Control};
 use opcode_table::Opcode;
-use script_machine::{Context, Control};
 use script_words::pcg;
 
 // A name, the place of the mouse, a seed and how many words were drawn, the place, and how many were drawn then, as two

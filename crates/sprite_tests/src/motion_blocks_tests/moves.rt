@@ -2,8 +2,8 @@
 
 use super::Given::Of;
 use super::{ANN, CAT, Input, NO_INPUT, STAGE, direction, is_at, number, opened, put, run};
+use machine_spec::Style;
 use opcode_table::Opcode;
-use script_machine::Style;
 
 // A place and a direction, a block with two inputs, and the place and the direction behind it, as two programs outside found
 // them, or as plain sums.

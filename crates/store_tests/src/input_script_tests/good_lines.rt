@@ -2,7 +2,7 @@
 
 use super::Wanted::{Answer, Button, Click, Down, Flag, Frame, Mouse, Nothing, Stop, Turbo, Up};
 use super::{Wanted, read_one};
-use script_machine::Key;
+use machine_spec::Key;
 
 static GOOD: [(&str, u64, Wanted); 60] = [
     ("down \u{200b}", 5, Down(Key::One('\u{200b}'))),

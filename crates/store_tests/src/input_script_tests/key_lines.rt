@@ -2,7 +2,7 @@
 
 use super::Wanted::{Down, UnknownLine, Up};
 use super::read_one;
-use script_machine::Key;
+use machine_spec::Key;
 
 static KEYS: [(&str, Key); 42] = [
     ("space", Key::Space),

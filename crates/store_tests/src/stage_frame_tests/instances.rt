@@ -2,8 +2,8 @@
 
 use super::{World, bound, has, opened, text_value, told};
 use devices::Question;
+use machine_spec::{BubbleText, Effect, InstanceId, Say, Serial};
 use scratch_number::of_whole;
-use script_machine::{BubbleText, Effect, InstanceId, Say, Serial};
 use std::process::Abort;
 
 // A stage, a sprite that does not turn, and one with clones.

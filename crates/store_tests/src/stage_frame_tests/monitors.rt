@@ -1,7 +1,7 @@
 //! Monitors of the file and those that blocks added.
 
 use super::{World, bound, has, opened, text_value, told};
-use script_machine::{InstanceId, Shown, TargetId};
+use machine_spec::{InstanceId, Shown, TargetId};
 use std::process::Abort;
 
 // A project up to its monitors.

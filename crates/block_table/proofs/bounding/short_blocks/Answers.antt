@@ -3,7 +3,7 @@ use Rattle.std.proofs.lemmas.List.{drop_more}
 use Rattle.std.specs.List.{zip}
 use Rattle.std.specs.Vec.Iter.{into_iter_items}
 use Rattle.std.proofs.lemmas.Result.{err_from_is_err_and}
-use Rattle.project_file.specs.Limits.{Measure, block_measures, first_too_many}
+use Rattle.project_spec.specs.Limits.{Measure, block_measures, first_too_many}
 use Rattle.block_table.specs.FileBlock.{block_in}
 use Rattle.block_table.specs.Table.{origins}
 use Rattle.block_table.proofs.Measures.{too_many-row, refuses-row, next_row}

@@ -1,7 +1,7 @@
 use Rattle.std.proofs.Common.{◌≡◌, ◌+◌, ◌++◌, length, drop, map, flat_map}
 use Rattle.std.specs.List.{zip}
 use Rattle.std.specs.Vec.Iter.{into_iter_items, into_iter_len}
-use Rattle.project_file.specs.Limits.{block_measures, first_too_many}
+use Rattle.project_spec.specs.Limits.{block_measures, first_too_many}
 use Rattle.block_table.specs.FileBlock.{block_in}
 use Rattle.block_table.specs.Table.{origins}
 use Rattle.block_table.proofs.bounding.short_blocks.Given as goal

@@ -1,6 +1,6 @@
 use Rattle.std.proofs.Common.{◌≡◌, ◌++◌, drop, map, flat_map}
-use Rattle.project_file.specs.FileValues.{value_in}
-use Rattle.project_file.specs.Limits.{value_measures, first_too_many}
+use Rattle.project_spec.specs.FileValues.{value_in}
+use Rattle.project_spec.specs.Limits.{value_measures, first_too_many}
 use Rattle.block_table.proofs.bounding.short_defaults.Given as goal
 
 -- the defaults so far and those that are left, and that none so far is too long

@@ -1,5 +1,5 @@
 use Rattle.std.proofs.Common.{◌≡◌, drop, flat_map}
-use Rattle.project_file.specs.Limits.{first_too_many}
+use Rattle.project_spec.specs.Limits.{first_too_many}
 use Rattle.block_table.specs.Measured.{field_measures}
 use Rattle.block_table.proofs.bounding.short_fields.Given as goal
 

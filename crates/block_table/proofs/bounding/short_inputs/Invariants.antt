@@ -1,6 +1,6 @@
 use Rattle.std.proofs.Common.{◌≡◌, ◌++◌, length, map, flat_map}
 use Rattle.std.specs.Vec.Iter.{into_iter_items, into_iter_len}
-use Rattle.project_file.specs.Limits.{input_measures, first_too_many}
+use Rattle.project_spec.specs.Limits.{input_measures, first_too_many}
 use Rattle.block_table.specs.FileBlock.{named_input}
 use Rattle.block_table.proofs.bounding.short_inputs.Given as goal
 

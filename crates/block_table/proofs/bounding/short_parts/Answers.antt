@@ -1,6 +1,6 @@
 use Rattle.std.proofs.Common.{◌≡◌, ◌++◌, ◌∷◌, List, map, codes, flat_map, None, sym}
 use Rattle.std.proofs.lemmas.Result.{err_from_is_err_and}
-use Rattle.project_file.specs.Limits.{Measure, input_measures, default_measures, first_too_many}
+use Rattle.project_spec.specs.Limits.{Measure, input_measures, default_measures, first_too_many}
 use Rattle.block_table.specs.FileBlock.{named_input, mutation_in}
 use Rattle.block_table.specs.Measured.{field_measures}
 use Rattle.block_table.specs.Refused.{Refuses}

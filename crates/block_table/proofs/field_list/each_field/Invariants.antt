@@ -1,8 +1,8 @@
 use Rattle.std.proofs.Common.{◌≡◌, drop, map}
 use Rattle.project_json.specs.View.{field}
-use Rattle.shapes.specs.Shapes.{each_member}
-use Rattle.shapes.specs.Each.{after}
-use Rattle.project_file.specs.Blocks.{field_of}
+use Rattle.json_shapes.specs.Shapes.{each_member}
+use Rattle.json_shapes.specs.Each.{after}
+use Rattle.project_spec.specs.Blocks.{field_of}
 use Rattle.block_table.proofs.field_list.each_field.Given as goal
 
 -- the fields so far, and those that are left

@@ -1,8 +1,8 @@
 use Rattle.std.proofs.Common.{◌≡◌, drop, map}
 use Rattle.project_json.specs.View.{field}
-use Rattle.shapes.specs.Shapes.{each_member}
-use Rattle.shapes.specs.Each.{after}
-use Rattle.project_file.specs.Blocks.{input_of}
+use Rattle.json_shapes.specs.Shapes.{each_member}
+use Rattle.json_shapes.specs.Each.{after}
+use Rattle.project_spec.specs.Blocks.{input_of}
 use Rattle.block_table.specs.FileBlock.{named_input}
 use Rattle.block_table.proofs.input_list.each_input.Given as goal
 

@@ -1,5 +1,5 @@
 use Rattle.std.proofs.Common.{refl}
-use Rattle.project_file.specs.Blocks.{call_by}
+use Rattle.project_spec.specs.Blocks.{call_by}
 use Rattle.block_table.proofs.Saying.{bad_said}
 use Rattle.block_table.proofs.objects.call.Goals as goal
 

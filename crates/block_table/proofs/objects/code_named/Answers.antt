@@ -1,6 +1,6 @@
 use Rattle.std.proofs.Common.{sym, ◌∙◌, ap}
 use Rattle.opcode_table.specs.Table.{of_name}
-use Rattle.project_file.specs.declared.blocks.Code.TheVariants.{Other}
+use Rattle.project_spec.specs.declared.blocks.Code.TheVariants.{Other}
 use Rattle.block_table.proofs.Saying.{code_named-Known, code_named-Other}
 use Rattle.block_table.proofs.objects.code_named.Goals as goal
 

@@ -1,5 +1,5 @@
 use Rattle.std.proofs.Common.{refl}
-use Rattle.project_file.specs.Blocks.{prototype_by}
+use Rattle.project_spec.specs.Blocks.{prototype_by}
 use Rattle.mutations.specs.FilePrototype.{prototype_of}
 use Rattle.block_table.proofs.Saying.{bad_said}
 use Rattle.block_table.proofs.objects.prototype.Goals as goal

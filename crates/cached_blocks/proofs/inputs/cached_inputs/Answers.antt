@@ -1,4 +1,4 @@
-use Rattle.project_file.specs.Trees.{operand}
+use Rattle.project_spec.specs.Trees.{operand}
 use Rattle.cached_blocks.specs.Cached.{sheet_with, with_plugged}
 use Rattle.cached_blocks.proofs.Steps.{mapped-more}
 use Rattle.cached_blocks.proofs.inputs.cached_inputs.Goals as goal

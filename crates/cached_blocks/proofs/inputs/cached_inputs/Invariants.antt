@@ -1,6 +1,6 @@
 use Rattle.std.proofs.Common.{◌≡◌, ◌++◌, drop, map}
 use Rattle.std.specs.List.{filter_map}
-use Rattle.project_file.specs.Trees.{operand}
+use Rattle.project_spec.specs.Trees.{operand}
 use Rattle.cached_blocks.specs.Cached.{sheet_with, with_plugged}
 use Rattle.cached_blocks.proofs.inputs.cached_inputs.Given as goal
 

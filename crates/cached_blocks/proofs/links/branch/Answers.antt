@@ -1,6 +1,6 @@
 use Rattle.std.proofs.Common.{◌≡◌, ◌∙◌, true, false, bytes_eq, sym, subst}
 use Rattle.std.proofs.lemmas.Slice.Eq.{bytes_eq-Decides}
-use Rattle.project_file.specs.Linked.{is_branch}
+use Rattle.project_spec.specs.Linked.{is_branch}
 use Rattle.cached_blocks.proofs.Branches.{branch-past, branch-here}
 use Rattle.cached_blocks.proofs.links.branch.Goals as goal
 

@@ -1,6 +1,6 @@
 use Rattle.std.proofs.Common.{◌≡◌, drop}
 use Rattle.std.specs.List.{filter_map}
-use Rattle.project_file.specs.Trees.{branch}
+use Rattle.project_spec.specs.Trees.{branch}
 use Rattle.cached_blocks.specs.Cached.{branch_link}
 use Rattle.cached_blocks.proofs.links.branch.Given as goal
 

@@ -1,5 +1,5 @@
 use Rattle.std.proofs.Common.{◌≡◌, [], drop}
-use Rattle.script_machine.specs.ControlRows.{params_from}
+use Rattle.machine_spec.specs.ControlRows.{params_from}
 use Rattle.control_blocks.proofs.procedures.params.Given as goal
 
 -- the parameters so far, and those that are left

@@ -1,5 +1,5 @@
 use Rattle.std.proofs.lemmas.Result.{on_ok_weaker}
-use Rattle.script_machine.specs.declared.variables.Shown.TheVariants as shown
+use Rattle.machine_spec.specs.declared.variables.Shown.TheVariants as shown
 use Rattle.target_records.specs.Records.{records_in}
 use Rattle.data_blocks.proofs.Named.{shown_is}
 use Rattle.data_blocks.proofs.monitor_rows.show_list.Goals as goal

@@ -1,6 +1,6 @@
 use Rattle.std.proofs.Common.{filter, not, rules, ap, ◌∙◌}
 use Rattle.std.proofs.lemmas.Fn.{filter_same}
-use Rattle.script_machine.specs.Sensing.{is_key}
+use Rattle.machine_spec.specs.Sensing.{is_key}
 use Rattle.devices.proofs.keys.without.Goals as goal
 
 pub returns : goal.returns

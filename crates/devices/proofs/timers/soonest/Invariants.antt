@@ -1,6 +1,6 @@
 use Rattle.std.proofs.Common.{◌≡◌, ◌<◌, ◌≤◌, drop, length, IfSome}
 use Rattle.std.specs.Option.{option_map}
-use Rattle.script_machine.specs.Frame.{next_due}
+use Rattle.machine_spec.specs.Frame.{next_due}
 use Rattle.devices.specs.Lists.{found}
 use Rattle.devices.proofs.timers.soonest.Given as goal
 

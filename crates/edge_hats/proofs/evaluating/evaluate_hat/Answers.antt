@@ -1,7 +1,7 @@
 -- The value is that of the evaluated arguments.
 use Rattle.std.proofs.Common.{Bool}
 use Rattle.scratch_values.specs.Named.{Arguments}
-use Rattle.script_machine.specs.Words.{seen_words}
+use Rattle.machine_spec.specs.Words.{seen_words}
 use Rattle.evaluate.specs.Seen.{seen}
 use Rattle.edge_hats.proofs.Valued.{valued-goes, valued-stops}
 use Rattle.edge_hats.proofs.evaluating.evaluate_hat.Goals as goal

@@ -1,6 +1,6 @@
 -- One more edge hat of the list is passed.
 use Rattle.std.proofs.Common.{sym, ap, ◌∙◌}
-use Rattle.script_machine.specs.Frame.{edges_passed}
+use Rattle.machine_spec.specs.Frame.{edges_passed}
 use Rattle.project_check.specs.Loaded.{program_of}
 use Rattle.hats.specs.Edges.{free_edges}
 use Rattle.executions.specs.Seen.{seen}

@@ -1,7 +1,7 @@
 -- The edge hats that are left, from the run so far, are all edge hats of the list.
 use Rattle.std.proofs.Common.{◌≡◌, drop}
-use Rattle.script_machine.specs.Frame.{edges, edges_passed}
-use Rattle.script_machine.specs.Starting.{Pair}
+use Rattle.machine_spec.specs.Frame.{edges, edges_passed}
+use Rattle.machine_spec.specs.Starting.{Pair}
 use Rattle.project_check.specs.Loaded.{program_of}
 use Rattle.hats.specs.Edges.{free_edges}
 use Rattle.hats.specs.Heads.{IsHeadOf}

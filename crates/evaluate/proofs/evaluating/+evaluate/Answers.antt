@@ -1,9 +1,9 @@
 use Rattle.std.proofs.Common.{◌≡◌, ◌+◌, ◌++◌, [], ◌∷◌, drop, map, sym, ap, ◌∙◌, subst, arith}
 use Rattle.scratch_values.specs.Args.{arguments}
 use Rattle.scratch_values.specs.Held.{pair_of, held}
-use Rattle.script_machine.specs.Outcome.{Goes, StopIs, then_do}
-use Rattle.script_machine.specs.Words.{seen_words, made_of}
-use Rattle.script_machine.specs.Evaluate.{value}
+use Rattle.machine_spec.specs.Outcome.{Goes, StopIs, then_do}
+use Rattle.machine_spec.specs.Words.{seen_words, made_of}
+use Rattle.machine_spec.specs.Evaluate.{value}
 use Rattle.project_check.specs.Loaded.{ranks_at}
 use Rattle.evaluate.specs.Plugged.{ArePluggedIn}
 use Rattle.evaluate.specs.Seen.{seen, sheet_of, input_values, arguments_at}

@@ -1,7 +1,7 @@
 use Rattle.std.proofs.Common.{◌≡◌, ℕ, ◌+◌, ◌*◌, drop, map}
 use Rattle.std.specs.List.{slice_index}
 use Rattle.scratch_values.specs.Held.{pair_of}
-use Rattle.script_machine.specs.Words.{seen_words}
+use Rattle.machine_spec.specs.Words.{seen_words}
 use Rattle.project_check.specs.Loaded.{ranks_at}
 use Rattle.evaluate.specs.declared.view.View.{View}
 use Rattle.evaluate.specs.Seen.{input_values}

@@ -1,8 +1,8 @@
 use Rattle.std.proofs.Common.{◌≡◌, sym, ap, ◌∙◌, subst}
 use Rattle.std.proofs.lemmas.Result.{IfOk-weaker}
-use Rattle.script_machine.specs.Evaluate.{evaluated}
-use Rattle.script_machine.specs.Outcome.{StopIs}
-use Rattle.script_machine.specs.Words.{seen_words}
+use Rattle.machine_spec.specs.Evaluate.{evaluated}
+use Rattle.machine_spec.specs.Outcome.{StopIs}
+use Rattle.machine_spec.specs.Words.{seen_words}
 use Rattle.project_check.specs.Loaded.{ranks_at}
 use Rattle.evaluate.specs.Seen.{seen, sheet_of}
 use Rattle.evaluate.proofs.Stopping.{arguments_stop}

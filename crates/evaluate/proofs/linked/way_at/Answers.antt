@@ -1,5 +1,5 @@
 use Rattle.std.proofs.Common.{ap}
-use Rattle.script_machine.specs.Evaluate.{value}
+use Rattle.machine_spec.specs.Evaluate.{value}
 use Rattle.project_check.specs.Loaded.{ranks_at}
 use Rattle.evaluate.specs.Seen.{seen, sheet_of}
 use Rattle.evaluate.proofs.InOrder.{way-plugged}

@@ -1,9 +1,9 @@
 -- A block without inputs has its fields alone as arguments.
 use Rattle.std.proofs.Common.{◌≡◌, List, [], ◌∷◌, length, refl, sym, ap, ◌∙◌}
 use Rattle.scratch_values.specs.Args.{arguments}
-use Rattle.script_machine.specs.Evaluate.{evaluated}
-use Rattle.script_machine.specs.Outcome.{Goes, then_do}
-use Rattle.script_machine.specs.Words.{made_of}
+use Rattle.machine_spec.specs.Evaluate.{evaluated}
+use Rattle.machine_spec.specs.Outcome.{Goes, then_do}
+use Rattle.machine_spec.specs.Words.{made_of}
 use Rattle.project_check.specs.Loaded.{ranks_at}
 use Rattle.evaluate.specs.Seen.{seen, sheet_of, input_values, inputs_of}
 use Rattle.evaluate.proofs.Values.{arguments-here, evaluated-told}

@@ -1,6 +1,6 @@
 -- The levels that were taken are moved, and have room where they were.
 use Rattle.std.proofs.Common.{arith}
-use Rattle.script_machine.specs.Pending.{settle}
+use Rattle.machine_spec.specs.Pending.{settle}
 use Rattle.executions.proofs.Lent.{room, moves_on}
 use Rattle.executions.proofs.listed.go_on.Goals as goal
 

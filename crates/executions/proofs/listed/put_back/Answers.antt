@@ -1,9 +1,9 @@
 -- Two changes of the thread are one.
 use Rattle.std.proofs.Common.{ap, ◌∙◌}
-use Rattle.script_machine.specs.Tasks.{status_after}
+use Rattle.machine_spec.specs.Tasks.{status_after}
 use Rattle.thread_frames.specs.Threads.{on_levels, with_status}
 use Rattle.executions.proofs.Placing.{on_twice}
-use Rattle.script_machine.specs.Places.{on_place}
+use Rattle.machine_spec.specs.Places.{on_place}
 use Rattle.executions.proofs.listed.put_back.Goals as goal
 
 pub returns : goal.returns

@@ -1,12 +1,12 @@
 -- The levels of the runner are moved, and have room for one more.
 use Rattle.std.proofs.Common.{◌<◌, refl, ap, ◌∙◌, arith, false}
 use Rattle.std.proofs.lemmas.Bool.Decides.{nat_tests}
-use Rattle.script_machine.specs.Outcome.{most_levels}
-use Rattle.script_machine.specs.Places.{on_place}
-use Rattle.script_machine.specs.Starting.{open_levels}
+use Rattle.machine_spec.specs.Outcome.{most_levels}
+use Rattle.machine_spec.specs.Places.{on_place}
+use Rattle.machine_spec.specs.Starting.{open_levels}
 use Rattle.thread_frames.specs.Threads.{frames, with_status}
-use Rattle.script_machine.specs.declared.threads.Control.TheVariants as control
-use Rattle.script_machine.specs.Step.{position}
+use Rattle.machine_spec.specs.declared.threads.Control.TheVariants as control
+use Rattle.machine_spec.specs.Step.{position}
 use Rattle.project_check.specs.Loaded.{program_of}
 use Rattle.executions.specs.Runners.{given_back}
 use Rattle.executions.proofs.Apart.{back_open, moves_on, moved}

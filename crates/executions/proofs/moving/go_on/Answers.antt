@@ -1,8 +1,8 @@
 -- The levels of the runner are moved.
 use Rattle.std.proofs.Common.{refl, ap, ◌∙◌}
-use Rattle.script_machine.specs.Places.{on_place}
+use Rattle.machine_spec.specs.Places.{on_place}
 use Rattle.thread_frames.specs.Threads.{with_status}
-use Rattle.script_machine.specs.Pending.{settle}
+use Rattle.machine_spec.specs.Pending.{settle}
 use Rattle.executions.proofs.Apart.{moves_on}
 use Rattle.executions.proofs.moving.go_on.Goals as goal
 

@@ -1,7 +1,7 @@
 -- The levels of the runner are counted with those of the list.
 use Rattle.std.proofs.Common.{ap, arith}
 use Rattle.std.specs.Prelude.{nat_lt}
-use Rattle.script_machine.specs.Outcome.{most_levels}
+use Rattle.machine_spec.specs.Outcome.{most_levels}
 use Rattle.executions.proofs.Apart.{back_open}
 use Rattle.executions.proofs.moving.has_room.Goals as goal
 

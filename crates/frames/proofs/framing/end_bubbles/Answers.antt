@@ -1,6 +1,6 @@
 -- Bubbles that end change neither the number of the frame nor the clock.
 use Rattle.std.proofs.Common.{length, ◌^◌}
-use Rattle.script_machine.specs.Frame.{timers_ended}
+use Rattle.machine_spec.specs.Frame.{timers_ended}
 use Rattle.executions.specs.Seen.{seen}
 use Rattle.frames.proofs.Framed.{clock-behind, few-behind}
 use Rattle.frames.proofs.Times.{timers-keep}

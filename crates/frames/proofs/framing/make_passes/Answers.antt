@@ -1,6 +1,6 @@
 -- Passes change neither the number of the frame nor the clock.
 use Rattle.std.proofs.Common.{true, false, ◌^◌}
-use Rattle.script_machine.specs.Frame.{passes}
+use Rattle.machine_spec.specs.Frame.{passes}
 use Rattle.project_check.specs.Loaded.{program_of}
 use Rattle.executions.specs.Seen.{seen}
 use Rattle.frames.proofs.Framed.{clock-behind, few-behind}

@@ -1,6 +1,6 @@
 -- Edge hats change neither the number of the frame nor the clock.
 use Rattle.std.proofs.Common.{◌^◌}
-use Rattle.script_machine.specs.Frame.{edges}
+use Rattle.machine_spec.specs.Frame.{edges}
 use Rattle.project_check.specs.Loaded.{program_of}
 use Rattle.executions.specs.Seen.{seen}
 use Rattle.frames.specs.Stages.{edges_tried}

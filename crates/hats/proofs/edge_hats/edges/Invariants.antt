@@ -1,6 +1,6 @@
 use Rattle.std.proofs.Common.{◌≡◌, ◌++◌, reverse}
 use Rattle.std.specs.Prelude.{flat_map}
-use Rattle.script_machine.specs.Starting.{pairs_of}
+use Rattle.machine_spec.specs.Starting.{pairs_of}
 use Rattle.project_check.specs.Loaded.{program_of}
 use Rattle.hats.specs.Edges.{is_edge, among}
 use Rattle.hats.proofs.edge_hats.edges.Given as goal

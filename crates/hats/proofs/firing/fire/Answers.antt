@@ -1,7 +1,7 @@
 -- The hat is started as what its block tells.
 use Rattle.std.proofs.Common.{◌≡◌, ◌∙◌, Some, ap, rules}
 use Rattle.std.specs.Prelude.{slice_get}
-use Rattle.script_machine.specs.Starting.{restarts}
+use Rattle.machine_spec.specs.Starting.{restarts}
 use Rattle.project_check.specs.Loaded.{blocks_at, sheet_at}
 use Rattle.hats.proofs.Fired.{first-held, fired-ok, fired-stop}
 use Rattle.hats.proofs.firing.fire.Goals as goal

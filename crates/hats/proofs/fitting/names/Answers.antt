@@ -1,6 +1,6 @@
 -- The text of the field is that of the statement.
 use Rattle.std.proofs.Common.{ap, ◌∙◌}
-use Rattle.script_machine.specs.Starting.{same_folded}
+use Rattle.machine_spec.specs.Starting.{same_folded}
 use Rattle.hats.proofs.fitting.names.Goals as goal
 
 pub returns : goal.returns

@@ -1,7 +1,7 @@
 -- The thread in the slot is one of the hat.
 use Rattle.std.proofs.Common.{◌≡◌, sym, ◌∙◌, subst}
 use Rattle.std.specs.Prelude.{OnOk}
-use Rattle.script_machine.specs.Outcome.{Goes}
+use Rattle.machine_spec.specs.Outcome.{Goes}
 use Rattle.thread_frames.specs.Stops.{PushStopIs}
 use Rattle.hats.proofs.Entering.{placed-is}
 use Rattle.hats.proofs.joining.place.Goals as goal

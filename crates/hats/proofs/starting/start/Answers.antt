@@ -1,6 +1,6 @@
 -- A start stops as the machine's start does.
 use Rattle.std.specs.Prelude.{Err}
-use Rattle.script_machine.specs.Starting.{starts}
+use Rattle.machine_spec.specs.Starting.{starts}
 use Rattle.project_check.specs.Loaded.{program_of}
 use Rattle.thread_frames.specs.Threads.{frames}
 use Rattle.hats.proofs.Stopping.{start_stops}

@@ -1,8 +1,8 @@
 -- A hat of the round is started as what its block tells.
 use Rattle.std.proofs.Common.{◌≡◌, sym, ap, ◌∙◌, subst}
 use Rattle.std.specs.Prelude.{OnOk}
-use Rattle.script_machine.specs.Outcome.{Goes, StopIs}
-use Rattle.script_machine.specs.Starting.{restarts}
+use Rattle.machine_spec.specs.Outcome.{Goes, StopIs}
+use Rattle.machine_spec.specs.Starting.{restarts}
 use Rattle.project_check.specs.Loaded.{sheet_at}
 use Rattle.hats.specs.Started.{crowd_of}
 use Rattle.hats.proofs.Blocks.{started-block, first-held}

@@ -1,8 +1,8 @@
 -- A round starts the hats that pass it; what is no click has none in the second.
 use Rattle.std.proofs.Common.{◌≡◌, true, sym, ap, ◌∙◌, subst}
 use Rattle.std.specs.Prelude.{OnOk}
-use Rattle.script_machine.specs.Outcome.{Goes, StopIs}
-use Rattle.script_machine.specs.Starting.{start_all, meant}
+use Rattle.machine_spec.specs.Outcome.{Goes, StopIs}
+use Rattle.machine_spec.specs.Starting.{start_all, meant}
 use Rattle.project_check.specs.Loaded.{program_of}
 use Rattle.thread_frames.specs.Threads.{frames}
 use Rattle.hats.specs.Started.{crowd_of}

@@ -1,7 +1,7 @@
 -- The heads that are left, from the threads so far, are all heads.
 use Rattle.std.proofs.Common.{sym, ap, ◌∙◌}
 use Rattle.std.specs.Prelude.{flat_map}
-use Rattle.script_machine.specs.Starting.{start_all}
+use Rattle.machine_spec.specs.Starting.{start_all}
 use Rattle.thread_frames.specs.Threads.{frames}
 use Rattle.hats.specs.Started.{crowd_of}
 use Rattle.hats.specs.Rounds.{passes, hats_at}

@@ -1,6 +1,6 @@
 use Rattle.std.proofs.Common.{◌≡◌, drop}
 use Rattle.std.specs.Prelude.{flat_map}
-use Rattle.script_machine.specs.Starting.{start_all}
+use Rattle.machine_spec.specs.Starting.{start_all}
 use Rattle.thread_frames.specs.Threads.{frames}
 use Rattle.hats.specs.Started.{crowd_of}
 use Rattle.hats.specs.Rounds.{hats_at, IsKept}

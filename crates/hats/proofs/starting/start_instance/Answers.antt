@@ -1,8 +1,8 @@
 -- Another instance has no hats that are started.
 use Rattle.std.proofs.Common.{◌≡◌, sym, ap, ◌∙◌, subst}
 use Rattle.std.specs.Prelude.{OnOk}
-use Rattle.script_machine.specs.Outcome.{Goes, StopIs}
-use Rattle.script_machine.specs.Starting.{start_all}
+use Rattle.machine_spec.specs.Outcome.{Goes, StopIs}
+use Rattle.machine_spec.specs.Starting.{start_all}
 use Rattle.thread_frames.specs.Threads.{frames}
 use Rattle.hats.specs.Started.{crowd_of}
 use Rattle.hats.proofs.Rounds.{hats_there, hats_none}

@@ -1,8 +1,8 @@
 -- The second round goes on from the threads that the first has left.
 use Rattle.std.proofs.Common.{◌≡◌, true, false, sym, ap, ◌∙◌, subst}
 use Rattle.std.specs.Prelude.{OnOk}
-use Rattle.script_machine.specs.Outcome.{Goes, StopIs}
-use Rattle.script_machine.specs.Starting.{start_all, pairs, meant}
+use Rattle.machine_spec.specs.Outcome.{Goes, StopIs}
+use Rattle.machine_spec.specs.Starting.{start_all, pairs, meant}
 use Rattle.project_check.specs.Loaded.{program_of}
 use Rattle.thread_frames.specs.Threads.{frames}
 use Rattle.hats.specs.Fitting.{in_round}

@@ -1,7 +1,7 @@
 use Rattle.std.proofs.Common.{sym, ap, ◌∙◌, arith}
 use Rattle.std.specs.Prelude.{option_map, min, pos}
 use Rattle.std.proofs.lemmas.Str.Pattern.{strip_prefix_char}
-use Rattle.script_machine.specs.ScriptText.{whole_number, negated_number, signed_number}
+use Rattle.machine_spec.specs.ScriptText.{whole_number, negated_number, signed_number}
 use Rattle.input_script.specs.Kept.{kept_within}
 use Rattle.input_script.proofs.Kept.{negated_kept, positive_kept, unsigned_word}
 use Rattle.input_script.proofs.numbers.signed_number.Goals as goal

@@ -1,5 +1,5 @@
 use Rattle.std.proofs.Common.{◌≡◌, arith}
-use Rattle.script_machine.specs.ScriptText.{whole_number, frame_line}
+use Rattle.machine_spec.specs.ScriptText.{whole_number, frame_line}
 use Rattle.input_script.proofs.LineWords.{ok_along, refused_along}
 use Rattle.input_script.proofs.Kept.{frame_kept}
 use Rattle.input_script.proofs.ranges.frame.Goals as goal

@@ -1,5 +1,5 @@
 use Rattle.std.proofs.Common.{◌≡◌, arith}
-use Rattle.script_machine.specs.ScriptText.{signed_number, mouse_line}
+use Rattle.machine_spec.specs.ScriptText.{signed_number, mouse_line}
 use Rattle.input_script.proofs.LineWords.{ok_along, refused_along}
 use Rattle.input_script.proofs.Kept.{mouse_kept}
 use Rattle.input_script.proofs.ranges.mouse.Goals as goal

@@ -1,5 +1,5 @@
 use Rattle.std.proofs.Common.{sym, ap, ◌∙◌, ◌∷◌}
-use Rattle.script_machine.specs.ScriptText.{by_words, words_of}
+use Rattle.machine_spec.specs.ScriptText.{by_words, words_of}
 use Rattle.input_script.proofs.LineWords.{unknown_along, five_words}
 use Rattle.input_script.proofs.reading.by_four.Goals as goal
 

@@ -1,6 +1,6 @@
 use Rattle.std.proofs.Common.{ap, sym, ◌∙◌}
 use Rattle.std.specs.Prelude.{Some}
-use Rattle.script_machine.specs.ScriptText.{text_reading}
+use Rattle.machine_spec.specs.ScriptText.{text_reading}
 use Rattle.input_script.proofs.LineWords.{ok_along, refused_along, utf8_line, no_text}
 use Rattle.input_script.proofs.reading.reading_of.Goals as goal
 

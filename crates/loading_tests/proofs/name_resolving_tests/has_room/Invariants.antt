@@ -1,7 +1,7 @@
 use Rattle.std.proofs.Common.{ℕ, ◌+◌, ◌<◌, ◌^◌, [], map}
 use Rattle.std.specs.Prelude.{slice_get, unwrap_or}
 use Rattle.std.specs.List.{sum_by}
-use Rattle.script_machine.specs.Program.{record_at}
+use Rattle.machine_spec.specs.Program.{record_at}
 use Rattle.target_records.specs.Records.{records_in}
 use Rattle.name_resolving.specs.Room.{holdings, parts}
 use Rattle.loading_tests.proofs.name_resolving_tests.has_room.Given as goal

@@ -1,6 +1,6 @@
 -- Rows whose clauses hold whatever the words and the devices are.
 use Rattle.std.proofs.Common.{ap}
-use Rattle.script_machine.specs.Outcome.{Goes}
+use Rattle.machine_spec.specs.Outcome.{Goes}
 use Rattle.looks_blocks.proofs.Moved.{one_each_cast}
 use Rattle.looks_blocks.proofs.Rows.{left_so}
 use Rattle.looks_blocks.proofs.applying.apply.Goals as goal

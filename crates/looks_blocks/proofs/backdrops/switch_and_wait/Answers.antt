@@ -1,6 +1,6 @@
 -- The first time the backdrop is switched.
 use Rattle.std.specs.Prelude.{Bool}
-use Rattle.script_machine.specs.declared.threads.Control.{Control}
+use Rattle.machine_spec.specs.declared.threads.Control.{Control}
 use Rattle.looks_blocks.proofs.Waiting.{stops_first}
 use Rattle.looks_blocks.proofs.backdrops.switch_and_wait.Goals as goal
 

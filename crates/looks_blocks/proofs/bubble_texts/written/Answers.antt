@@ -2,7 +2,7 @@
 use Rattle.std.proofs.Common.{◌≡◌, ◌++◌, ◌/◌, ◌%◌, ◌∙◌, codes, string_bytes}
 use Rattle.std.specs.Fmt.{decimal}
 use Rattle.std.proofs.lemmas.Result.{IfOk-weaker}
-use Rattle.script_machine.specs.Texts.{hundredths}
+use Rattle.machine_spec.specs.Texts.{hundredths}
 use Rattle.looks_blocks.proofs.Signs.{written_parts}
 use Rattle.looks_blocks.proofs.bubble_texts.written.Goals as goal
 

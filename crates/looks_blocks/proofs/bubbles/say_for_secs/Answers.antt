@@ -1,8 +1,8 @@
 -- The bubble is shown, and then its timer is made.
 use Rattle.std.proofs.Common.{ap, sym, ◌∙◌}
 use Rattle.scratch_number.specs.declared.number.Num.{Num}
-use Rattle.script_machine.specs.Looks.{timed_bubble}
-use Rattle.script_machine.specs.Outcome.{Goes}
+use Rattle.machine_spec.specs.Looks.{timed_bubble}
+use Rattle.machine_spec.specs.Outcome.{Goes}
 use Rattle.looks_blocks.specs.Blocks.{parts}
 use Rattle.looks_blocks.proofs.bubbles.say_for_secs.Goals as goal
 

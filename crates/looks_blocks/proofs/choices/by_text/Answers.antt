@@ -3,7 +3,7 @@ use Rattle.std.proofs.Common.{◌≡◌, ℕ, List, Option, ap, ◌∙◌}
 use Rattle.std.specs.Prelude.{bytes_eq, position}
 use Rattle.scratch_values.specs.Comparison.{numeric}
 use Rattle.scratch_values.specs.Value.{text_of}
-use Rattle.script_machine.specs.Costume as machine
+use Rattle.machine_spec.specs.Costume as machine
 use Rattle.looks_blocks.proofs.choices.by_text.Goals as goal
 
 pub returns-in-Some : goal.returns-in-Some

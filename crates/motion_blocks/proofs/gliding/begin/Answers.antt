@@ -1,6 +1,6 @@
 -- A glide that lasts no time is over at once.
 use Rattle.std.proofs.Common.{ap, sym, ◌∙◌}
-use Rattle.script_machine.specs.Stores.{less}
+use Rattle.machine_spec.specs.Stores.{less}
 use Rattle.motion_blocks.proofs.Glides.{otherwise}
 use Rattle.motion_blocks.proofs.gliding.begin.Goals as goal
 

@@ -1,6 +1,6 @@
 -- The place of the name, and then the turn to it.
 use Rattle.std.proofs.Common.{ap}
-use Rattle.script_machine.specs.Outcome.{Goes}
+use Rattle.machine_spec.specs.Outcome.{Goes}
 use Rattle.motion_blocks.proofs.pointing.turn_to_named.Goals as goal
 
 pub returns-in-Ok-clause-ok : goal.returns-in-Ok-clause-ok

@@ -1,7 +1,7 @@
 use Rattle.std.proofs.Common.{◌≡◌, drop, map}
 use Rattle.project_json.specs.View.{tree}
-use Rattle.project_file.specs.FileValues.{value_in}
-use Rattle.project_file.specs.Mutation.{all_some, default_of}
+use Rattle.project_spec.specs.FileValues.{value_in}
+use Rattle.project_spec.specs.Mutation.{all_some, default_of}
 use Rattle.mutations.proofs.Joined.{joined}
 use Rattle.mutations.proofs.defaults.item_defaults.Given as goal
 

@@ -1,7 +1,7 @@
 use Rattle.std.proofs.Common.{ap, sym, ◌∙◌}
 use Rattle.project_json.proofs.TextTrees.{text-tree_of}
-use Rattle.project_file.specs.Mutation.{or_refuse}
-use Rattle.project_file.specs.declared.refusals.MutationRefusal.TheVariants.{BadText}
+use Rattle.project_spec.specs.Mutation.{or_refuse}
+use Rattle.project_spec.specs.declared.refusals.MutationRefusal.TheVariants.{BadText}
 use Rattle.mutations.proofs.Documents.{refused}
 use Rattle.mutations.proofs.parts.document.Goals as goal
 

@@ -1,7 +1,7 @@
 use Rattle.std.proofs.Common.{◌≡◌, drop, map}
 use Rattle.project_json.specs.Parts.{text_in}
 use Rattle.project_json.specs.View.{tree}
-use Rattle.project_file.specs.Mutation.{all_some}
+use Rattle.project_spec.specs.Mutation.{all_some}
 use Rattle.mutations.proofs.Joined.{joined}
 use Rattle.mutations.proofs.parts.item_texts.Given as goal
 

@@ -1,6 +1,6 @@
 use Rattle.std.proofs.Common.{length, ap, arith}
-use Rattle.script_machine.specs.Program.{record_at}
-use Rattle.project_file.specs.Resolving.{field_naming}
+use Rattle.machine_spec.specs.Program.{record_at}
+use Rattle.project_spec.specs.Resolving.{field_naming}
 use Rattle.target_records.specs.Records.{records_in}
 use Rattle.name_resolving.specs.Room.{holdings}
 use Rattle.name_resolving.proofs.Fewness.{few-field, few-flat_map}

@@ -1,6 +1,6 @@
 use Rattle.std.proofs.Common.{take}
 use Rattle.std.specs.List.{flat_map}
-use Rattle.project_file.specs.Resolving.{field_naming}
+use Rattle.project_spec.specs.Resolving.{field_naming}
 use Rattle.target_records.specs.Records.{records_in}
 use Rattle.name_resolving.specs.Passing.{Passes}
 use Rattle.name_resolving.proofs.block.resolve_fields.Given as goal

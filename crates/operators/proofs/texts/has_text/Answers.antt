@@ -1,6 +1,6 @@
 use Rattle.std.proofs.Common.{Result, Ok, Err, Bool, ◌≡◌, ◌↔◌, IfOk, IsTrue, List, ℕ}
 use Rattle.scratch_values.specs.Folding.{HasPart}
-use Rattle.script_machine.specs.Texts.{has_part}
+use Rattle.machine_spec.specs.Texts.{has_part}
 use Rattle.operators.proofs.Parts.{part_found}
 use Rattle.operators.proofs.texts.has_text.Goals as goal
 

@@ -1,6 +1,6 @@
 use Rattle.std.proofs.Common.{ap, length, map}
 use Rattle.project_check.specs.Loaded.{program_of}
-use Rattle.saved_rules.specs.Basis.{basis_of}
+use Rattle.saved_spec.specs.Basis.{basis_of}
 use Rattle.player.specs.Promise.{Bases, Loads}
 use Rattle.player.proofs.Calls.{refused_load, project_cause, basis_cause}
 use Rattle.player.proofs.fetching.load_project.Goals as goal

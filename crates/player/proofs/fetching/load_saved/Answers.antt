@@ -1,7 +1,7 @@
 use Rattle.std.proofs.Common.{ℕ}
 use Rattle.rand_pcg.specs.Lcg.{Lcg}
 use Rattle.script_words.specs.Words.{answers}
-use Rattle.saved_rules.specs.Basis.{basis_of}
+use Rattle.saved_spec.specs.Basis.{basis_of}
 use Rattle.sequencer.specs.Runs.{world_of}
 use Rattle.sequencer.specs.declared.run.Run.{Run}
 use Rattle.player.proofs.Resumes.{refused_save}

@@ -1,4 +1,4 @@
-use Rattle.script_machine.specs.declared.lines.Line.TheVariants as line_of
+use Rattle.machine_spec.specs.declared.lines.Line.TheVariants as line_of
 use Rattle.project_check.specs.Loaded.{program_of}
 use Rattle.player.proofs.lines.play_frame.Goals as goal
 

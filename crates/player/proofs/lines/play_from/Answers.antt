@@ -1,10 +1,10 @@
 use Rattle.std.proofs.Common.{◌≡◌, ◌+◌, Option, sym, ap, ◌∙◌, subst}
 use Rattle.std.specs.Prelude.{drop, option_map}
-use Rattle.script_machine.specs.declared.lines.Line.{Line}
-use Rattle.script_machine.specs.Line.{after}
-use Rattle.script_machine.specs.Outcome.{Goes}
-use Rattle.script_machine.specs.Output.{Output, in_front, played}
-use Rattle.script_machine.specs.ScriptText.{Good, lines_of, clock_after}
+use Rattle.machine_spec.specs.declared.lines.Line.{Line}
+use Rattle.machine_spec.specs.Line.{after}
+use Rattle.machine_spec.specs.Outcome.{Goes}
+use Rattle.machine_spec.specs.Output.{Output, in_front, played}
+use Rattle.machine_spec.specs.ScriptText.{Good, lines_of, clock_after}
 use Rattle.project_check.specs.Loaded.{program_of}
 use Rattle.input_script.specs.Reader.{Reader, next_reading, reader_after, behind}
 use Rattle.sequencer.specs.Runs.{world_of}

@@ -1,6 +1,6 @@
 use Rattle.std.proofs.Common.{◌≡◌, ◌+◌, length}
-use Rattle.script_machine.specs.Output.{played}
-use Rattle.script_machine.specs.ScriptText.{lines_of}
+use Rattle.machine_spec.specs.Output.{played}
+use Rattle.machine_spec.specs.ScriptText.{lines_of}
 use Rattle.project_check.specs.Loaded.{program_of}
 use Rattle.sequencer.specs.Runs.{world_of, IsRunOf}
 use Rattle.player.proofs.Outputs.{IsPartOf}

@@ -1,8 +1,8 @@
 use Rattle.std.proofs.Common.{subst, ap, ◌∙◌}
 use Rattle.script_words.specs.Words.{answers}
-use Rattle.script_machine.specs.First.{first_world}
-use Rattle.script_machine.specs.Output.{played}
-use Rattle.script_machine.specs.ScriptText.{lines_of}
+use Rattle.machine_spec.specs.First.{first_world}
+use Rattle.machine_spec.specs.Output.{played}
+use Rattle.machine_spec.specs.ScriptText.{lines_of}
 use Rattle.project_check.specs.Loaded.{program_of}
 use Rattle.player.specs.Command.{name_to_save}
 use Rattle.player.specs.Promise.{all_of, text_from}

@@ -1,6 +1,6 @@
 use Rattle.std.proofs.Common.{sym, subst}
-use Rattle.script_machine.specs.Output.{played}
-use Rattle.script_machine.specs.ScriptText.{lines_of}
+use Rattle.machine_spec.specs.Output.{played}
+use Rattle.machine_spec.specs.ScriptText.{lines_of}
 use Rattle.project_check.specs.Loaded.{program_of}
 use Rattle.sequencer.specs.Runs.{world_of}
 use Rattle.player.specs.Command.{name_to_save}

@@ -1,6 +1,6 @@
 use Rattle.std.proofs.Common.{Some, Err, sym, subst, ◌∙◌}
 use Rattle.sv_channels.specs.Counts.{Rose}
-use Rattle.script_machine.specs.Output.{Whole}
+use Rattle.machine_spec.specs.Output.{Whole}
 use Rattle.saved_text.specs.Saving.{IsSaved, longest}
 use Rattle.sequencer.specs.Runs.{world_of}
 use Rattle.player.specs.Promise.{text_from}

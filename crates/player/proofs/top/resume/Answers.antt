@@ -4,11 +4,11 @@ use Rattle.sha2.specs.Sha256.{sha256}
 use Rattle.sv_channels.specs.Counts.{next_count, Rose}
 use Rattle.rand_pcg.specs.Lcg.{Lcg}
 use Rattle.script_words.specs.Words.{answers}
-use Rattle.script_machine.specs.Output.{played}
-use Rattle.script_machine.specs.ScriptText.{lines_of}
+use Rattle.machine_spec.specs.Output.{played}
+use Rattle.machine_spec.specs.ScriptText.{lines_of}
 use Rattle.project_check.specs.Loaded.{program_of}
-use Rattle.saved_rules.specs.Basis.{basis_of}
-use Rattle.saved_rules.specs.Refusals.{IsAccepted}
+use Rattle.saved_spec.specs.Basis.{basis_of}
+use Rattle.saved_spec.specs.Refusals.{IsAccepted}
 use Rattle.sequencer.specs.Runs.{world_of}
 use Rattle.sequencer.specs.declared.run.Run.{Run}
 use Rattle.player.specs.Limits.{project_limit, saved_limit, script_limit}

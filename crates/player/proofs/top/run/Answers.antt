@@ -3,7 +3,7 @@ use Rattle.std.specs.declared.alloc.Global.{Global}
 use Rattle.sha2.specs.Sha256.{sha256}
 use Rattle.sv_channels.specs.Counts.{next_count, Rose}
 use Rattle.project_check.specs.Loaded.{program_of}
-use Rattle.saved_rules.specs.Basis.{basis_of}
+use Rattle.saved_spec.specs.Basis.{basis_of}
 use Rattle.player.specs.Limits.{project_limit, script_limit}
 use Rattle.player.specs.Command.{Form, name_to_save}
 use Rattle.player.specs.Promise.{Outcome, Loads, PutFailed, AnswerCause, Wrote, Writes, Shelved, IsUnshelved, all_of, text_from, words_of, output_of}

@@ -1,6 +1,6 @@
 use Rattle.std.proofs.Common.{◌+◌, map, drop, ap, arith}
 use Rattle.project_json.specs.View.{tree}
-use Rattle.project_file.specs.Reading.{table_in}
+use Rattle.project_spec.specs.Reading.{table_in}
 use Rattle.target_records.proofs.Sizes.{item-size, drop_turn, after_turn}
 use Rattle.project_check.proofs.file.tables.Goals as goal
 

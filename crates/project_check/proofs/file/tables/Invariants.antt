@@ -1,8 +1,8 @@
 use Rattle.std.proofs.Common.{◌≡◌, drop, map}
 use Rattle.project_json.specs.View.{tree}
-use Rattle.shapes.specs.Shapes.{each, each_from}
-use Rattle.shapes.specs.Each.{after}
-use Rattle.project_file.specs.Reading.{table_in}
+use Rattle.json_shapes.specs.Shapes.{each, each_from}
+use Rattle.json_shapes.specs.Each.{after}
+use Rattle.project_spec.specs.Reading.{table_in}
 use Rattle.project_check.proofs.file.tables.Given as goal
 
 -- the tables so far, and those that are left

@@ -1,9 +1,9 @@
 use Rattle.std.proofs.Common.{◌∙◌, sym, ap, subst, arith, length}
 use Rattle.std.specs.List.{All, AllZip}
 use Rattle.std.proofs.lemmas.List.{length-map}
-use Rattle.project_file.specs.Refusals.{tests, Passes}
+use Rattle.project_spec.specs.Refusals.{tests, Passes}
 use Rattle.target_records.specs.Records.{records_in}
-use Rattle.linked_blocks.specs.Kept.{IsKept, IsRefusal, blocks_in}
+use Rattle.block_checks.specs.Kept.{IsKept, IsRefusal, blocks_in}
 use Rattle.project_check.specs.Loaded.{Resolves}
 use Rattle.project_check.specs.Kept.{CachesAll}
 use Rattle.project_check.proofs.Resolved.{keeps, heads_of, count_of, as_many_names}

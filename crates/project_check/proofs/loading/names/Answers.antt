@@ -2,7 +2,7 @@ use Rattle.std.proofs.Common.{◌≡◌, ap, ◌∙◌, map}
 use Rattle.std.specs.Borrow.{Bor}
 use Rattle.std.proofs.Common.{List, Bool}
 use Rattle.std.proofs.lemmas.Result.{IfOk-weaker}
-use Rattle.linked_blocks.specs.Kept.{Kept}
+use Rattle.block_checks.specs.Kept.{Kept}
 use Rattle.name_resolving.specs.Blocks.{flag_of}
 use Rattle.project_check.proofs.Resolved.{flags_same}
 use Rattle.project_check.proofs.loading.names.Goals as goal

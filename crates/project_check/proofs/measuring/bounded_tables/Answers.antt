@@ -1,7 +1,7 @@
 use Rattle.std.proofs.Common.{◌≡◌, ◌+◌, ℕ, length, ap, ◌∙◌, subst, rules, Ok}
 use Rattle.std.specs.Vec.Iter.{into_iter_items}
 use Rattle.std.proofs.lemmas.List.{length_push}
-use Rattle.project_file.specs.Limits.{table_measures, blocks_place, first_too_many}
+use Rattle.project_spec.specs.Limits.{table_measures, blocks_place, first_too_many}
 use Rattle.block_table.specs.declared.table.BlockTable.{BlockTable}
 use Rattle.block_table.specs.Table.{numbered}
 use Rattle.project_check.specs.Measured.{texts_from, Stops, Bounds}

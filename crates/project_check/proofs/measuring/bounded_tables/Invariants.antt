@@ -1,6 +1,6 @@
 use Rattle.std.proofs.Common.{◌≡◌, ◌++◌, length, map}
 use Rattle.std.specs.Vec.Iter.{into_iter_items}
-use Rattle.project_file.specs.Limits.{first_too_many}
+use Rattle.project_spec.specs.Limits.{first_too_many}
 use Rattle.block_table.specs.Table.{numbered}
 use Rattle.project_check.specs.Measured.{texts_from}
 use Rattle.project_check.proofs.measuring.bounded_tables.Given as goal

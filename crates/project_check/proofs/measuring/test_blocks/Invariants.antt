@@ -1,6 +1,6 @@
 use Rattle.std.proofs.Common.{◌≡◌, ◌≤◌, drop}
 use Rattle.std.specs.List.{enumerate_from}
-use Rattle.project_file.specs.Limits.{counts_from, first_too_many}
+use Rattle.project_spec.specs.Limits.{counts_from, first_too_many}
 use Rattle.project_check.proofs.measuring.test_blocks.Given as goal
 
 -- the blocks so far are few enough, and those that are left tell what all tell

@@ -1,5 +1,5 @@
 use Rattle.std.proofs.Common.{◌≡◌, drop}
-use Rattle.project_file.specs.Linked.{named}
+use Rattle.project_spec.specs.Linked.{named}
 use Rattle.project_check.proofs.procedures.named.Given as goal
 
 -- no input so far has the name

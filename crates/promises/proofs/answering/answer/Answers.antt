@@ -1,6 +1,6 @@
 -- The first question is the one that ends.
 use Rattle.std.proofs.Common.{sym, ◌∙◌, subst}
-use Rattle.script_machine.specs.Outcome.{StopIs}
+use Rattle.machine_spec.specs.Outcome.{StopIs}
 use Rattle.promises.proofs.Asked.{some_asked}
 use Rattle.promises.proofs.answering.answer.Goals as goal
 

@@ -1,6 +1,6 @@
 -- One more timer that ends is one more turn.
 use Rattle.std.proofs.Common.{◌≡◌, ◌-◌, ◌+◌, Bool, length, sym, ap, ◌∙◌, arith}
-use Rattle.script_machine.specs.Frame.{timers_ended}
+use Rattle.machine_spec.specs.Frame.{timers_ended}
 use Rattle.executions.specs.Seen.{seen}
 use Rattle.promises.proofs.Endings.{timers-over, timers-on, timers-off, timers-stop}
 use Rattle.promises.proofs.timing.end_timers.Goals as goal

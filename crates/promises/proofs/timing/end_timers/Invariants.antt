@@ -1,6 +1,6 @@
 -- The timers that ended so far left as many turns.
 use Rattle.std.proofs.Common.{◌≡◌, ◌-◌}
-use Rattle.script_machine.specs.Frame.{timers_ended}
+use Rattle.machine_spec.specs.Frame.{timers_ended}
 use Rattle.executions.specs.Resting.{IsIdle}
 use Rattle.executions.specs.Seen.{seen}
 use Rattle.promises.proofs.timing.end_timers.Given as goal

@@ -1,6 +1,6 @@
 use Rattle.std.proofs.Common.{take, map}
 use Rattle.std.specs.List.{AllZip}
-use Rattle.linked_blocks.specs.Kept.{AreChecked}
+use Rattle.block_checks.specs.Kept.{AreChecked}
 use Rattle.project_check.specs.Loaded.{tables_of}
 use Rattle.report.proofs.counting.all_flags.Given as goal
 

@@ -1,6 +1,6 @@
 use Rattle.std.proofs.Common.{◌≡◌, ◌+◌, ◌≤◌, drop}
 use Rattle.std.specs.List.{count_by}
-use Rattle.project_file.specs.Linked.{is_head}
+use Rattle.project_spec.specs.Linked.{is_head}
 use Rattle.report.proofs.counting.heads_of.Given as goal
 
 -- the heads so far, and those that are left

@@ -1,6 +1,6 @@
 use Rattle.std.proofs.Common.{arith, ◌<◌, length, ap, ◌∙◌}
 use Rattle.std.specs.List.{count_by}
-use Rattle.project_file.specs.Linked.{is_head}
+use Rattle.project_spec.specs.Linked.{is_head}
 use Rattle.project_check.specs.Loaded.{tables_of}
 use Rattle.report.proofs.Counted.{more_heads, few_heads}
 use Rattle.report.proofs.counting.scripts_in.Goals as goal

@@ -1,6 +1,6 @@
 use Rattle.std.proofs.Common.{◌≡◌, take}
 use Rattle.std.specs.List.{count_by, sum_by}
-use Rattle.project_file.specs.Linked.{is_head}
+use Rattle.project_spec.specs.Linked.{is_head}
 use Rattle.project_check.specs.Loaded.{tables_of}
 use Rattle.report.proofs.counting.scripts_in.Given as goal
 

@@ -1,6 +1,6 @@
 use Rattle.std.proofs.Common.{◌≡◌, ◌++◌, drop}
 use Rattle.std.specs.Prelude.{flat_map}
-use Rattle.script_machine.specs.FrameText.{escaped}
+use Rattle.machine_spec.specs.FrameText.{escaped}
 use Rattle.report.proofs.pieces.push_inner.Given as goal
 
 -- the bytes so far, and then those that are left

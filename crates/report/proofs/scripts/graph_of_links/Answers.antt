@@ -1,4 +1,4 @@
-use Rattle.linked_blocks.proofs.Bridges.{closed_links}
+use Rattle.block_checks.proofs.Bridges.{closed_links}
 use Rattle.report.proofs.scripts.graph_of_links.Goals as goal
 
 pub unreachable-requires : goal.unreachable-requires

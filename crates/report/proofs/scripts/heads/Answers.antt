@@ -1,8 +1,8 @@
 use Rattle.std.proofs.Common.{length, sym, ap, subst, arith}
 use Rattle.std.proofs.lemmas.Option.{slice_get_within}
-use Rattle.linked_blocks.specs.Rows.{IsHeadAt}
-use Rattle.linked_blocks.proofs.Lists.{read}
-use Rattle.linked_blocks.proofs.Bridges.{heads_more}
+use Rattle.block_checks.specs.Rows.{IsHeadAt}
+use Rattle.block_checks.proofs.Lists.{read}
+use Rattle.block_checks.proofs.Bridges.{heads_more}
 use Rattle.report.proofs.scripts.heads.Goals as goal
 
 pub loop-block-preserved : goal.loop-block-preserved

@@ -1,4 +1,4 @@
-use Rattle.linked_blocks.specs.Rows.{AreHeads}
+use Rattle.block_checks.specs.Rows.{AreHeads}
 use Rattle.report.proofs.scripts.heads.Given as goal
 
 abbrev pub invariant-loop-block : goal.invariant-loop-block

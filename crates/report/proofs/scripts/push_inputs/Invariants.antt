@@ -1,5 +1,5 @@
 use Rattle.std.proofs.Common.{◌≡◌, drop, ◌++◌}
-use Rattle.linked_blocks.specs.Rows.{numbers_in}
+use Rattle.block_checks.specs.Rows.{numbers_in}
 use Rattle.report.proofs.scripts.push_inputs.Given as goal
 
 abbrev pub invariant-loop-input : goal.invariant-loop-input

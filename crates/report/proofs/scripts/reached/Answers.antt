@@ -4,8 +4,8 @@ use Rattle.std.proofs.lemmas.List.{length-map}
 use Rattle.std.proofs.lemmas.List.Elements.{Contains-get_or}
 use Rattle.std.proofs.lemmas.Option.{slice_get_within}
 use Rattle.std.proofs.lemmas.Result.{IfOk-weaker}
-use Rattle.linked_blocks.specs.Rows.{row}
-use Rattle.linked_blocks.proofs.Bridges.{are_checked}
+use Rattle.block_checks.specs.Rows.{row}
+use Rattle.block_checks.proofs.Bridges.{are_checked}
 use Rattle.report.proofs.scripts.reached.Goals as goal
 
 pub reach-requires : goal.reach-requires

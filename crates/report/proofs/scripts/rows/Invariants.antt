@@ -1,5 +1,5 @@
 use Rattle.std.proofs.Common.{◌≡◌, take, map}
-use Rattle.linked_blocks.specs.Rows.{rows}
+use Rattle.block_checks.specs.Rows.{rows}
 use Rattle.report.proofs.scripts.rows.Given as goal
 
 abbrev pub invariant-loop-block : goal.invariant-loop-block

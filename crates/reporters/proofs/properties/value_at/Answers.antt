@@ -2,7 +2,7 @@ use Rattle.std.proofs.Common.{◌∙◌}
 use Rattle.std.proofs.lemmas.Option.{unwrap_or-slice_get}
 use Rattle.scratch_values.specs.Casts.{zero_number}
 use Rattle.scratch_values.specs.declared.value.Value.TheVariants.{Number}
-use Rattle.script_machine.specs.Stores.{store_at}
+use Rattle.machine_spec.specs.Stores.{store_at}
 use Rattle.reporters.proofs.properties.value_at.Goals as goal
 
 pub returns : goal.returns

@@ -1,8 +1,8 @@
 use Rattle.std.proofs.Common.{sym, ap, ◌∙◌, refl}
 use Rattle.script_words.specs.Words.{answers}
 use Rattle.saved_parts.specs.Telling.{told_of}
-use Rattle.saved_rules.specs.Basis.{basis_of}
-use Rattle.saved_rules.specs.Refusals.{first_difference}
+use Rattle.saved_spec.specs.Basis.{basis_of}
+use Rattle.saved_spec.specs.Refusals.{first_difference}
 use Rattle.run_save.specs.Loading.{Loads}
 use Rattle.run_save.proofs.Judging.{is_accepted, passed, refused_spelling}
 use Rattle.run_save.proofs.Written.{not_made_refused, run_text}

@@ -1,6 +1,6 @@
 use Rattle.std.proofs.Common.{ap, ◌∙◌}
 use Rattle.script_words.specs.Words.{answers}
-use Rattle.saved_rules.specs.Refusals.{first_difference}
+use Rattle.saved_spec.specs.Refusals.{first_difference}
 use Rattle.run_save.proofs.SavedRun.{is_text_of_run}
 use Rattle.run_save.proofs.loading.misspelled.Goals as goal
 

@@ -1,5 +1,5 @@
 use Rattle.std.proofs.Common.{length, ◌-◌, ◌≡◌, ◌+◌, ◌≤◌, drop, option_map}
-use Rattle.saved_rules.specs.Refusals.{first_difference}
+use Rattle.saved_spec.specs.Refusals.{first_difference}
 use Rattle.run_save.proofs.spelling.difference.Given as goal
 
 abbrev pub invariant-loop-at : goal.invariant-loop-at

@@ -3,8 +3,8 @@ use Rattle.std.specs.List.{All}
 use Rattle.std.specs.Vec.Iter.{into_iter_items}
 use Rattle.saved_levels.specs.Waits.{TellsOf}
 use Rattle.saved_parts.specs.Telling.{thread_of}
-use Rattle.saved_rules.specs.Kept.{SavedThread}
-use Rattle.saved_rules.specs.RunShapes.{Told}
+use Rattle.saved_spec.specs.Kept.{SavedThread}
+use Rattle.saved_spec.specs.RunShapes.{Told}
 use Rattle.run_save.specs.Parts.{AreParts, IsReady}
 use Rattle.run_save.proofs.threads.parts_of.Given as goal
 

@@ -1,7 +1,7 @@
 use Rattle.std.proofs.Common.{◌≡◌, length, drop}
 use Rattle.std.specs.Prelude.{nat_le}
 use Rattle.std.specs.List.{sum_by}
-use Rattle.script_machine.specs.Outcome.{most_levels}
+use Rattle.machine_spec.specs.Outcome.{most_levels}
 use Rattle.saved_checks.proofs.counting.have_few_levels.Given as goal
 
 -- the levels of the threads that are left are as many as may be left

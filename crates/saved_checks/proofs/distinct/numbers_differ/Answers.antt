@@ -4,7 +4,7 @@ use Rattle.std.specs.List.{list_all, list_any}
 use Rattle.std.specs.BTreeSet.{contains}
 use Rattle.std.specs.Ordering.{is_eq, nat_cmp}
 use Rattle.std.proofs.lemmas.Bool.{not-true, not-false}
-use Rattle.saved_rules.specs.Rules.{differ}
+use Rattle.saved_spec.specs.Rules.{differ}
 use Rattle.saved_checks.proofs.Fresh.{one-less, none-in, any-same, number-same, cut-at}
 use Rattle.saved_checks.proofs.distinct.numbers_differ.Goals as goal
 

@@ -2,7 +2,7 @@ use Rattle.std.proofs.Common.{◌≡◌, ◌&&◌, not, drop}
 use Rattle.std.specs.List.{list_all}
 use Rattle.std.specs.BTreeSet.{contains}
 use Rattle.std.specs.Ordering.{nat_cmp}
-use Rattle.saved_rules.specs.Rules.{differ}
+use Rattle.saved_spec.specs.Rules.{differ}
 use Rattle.saved_checks.proofs.distinct.numbers_differ.Given as goal
 
 -- the numbers that are left are not among those before, and differ

@@ -7,7 +7,7 @@ use Rattle.std.specs.Ordering.{is_eq, nat_cmp}
 use Rattle.std.specs.Cmp.Lexicographic.{slice_cmp}
 use Rattle.std.proofs.lemmas.Bool.{not-true, not-false}
 use Rattle.std.proofs.lemmas.Map.Text.{is_eq-slice_cmp}
-use Rattle.saved_rules.specs.Rules.{texts_differ}
+use Rattle.saved_spec.specs.Rules.{texts_differ}
 use Rattle.saved_checks.proofs.Fresh.{one-less, none-in, any-same, cut-at}
 use Rattle.saved_checks.proofs.distinct.texts_differ.Goals as goal
 

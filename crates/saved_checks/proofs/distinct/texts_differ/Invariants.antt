@@ -3,7 +3,7 @@ use Rattle.std.specs.List.{list_all}
 use Rattle.std.specs.BTreeSet.{contains_by}
 use Rattle.std.specs.Ordering.{nat_cmp}
 use Rattle.std.specs.Cmp.Lexicographic.{slice_cmp}
-use Rattle.saved_rules.specs.Rules.{texts_differ}
+use Rattle.saved_spec.specs.Rules.{texts_differ}
 use Rattle.saved_checks.proofs.distinct.texts_differ.Given as goal
 
 -- the texts that are left are not among those before, and differ

@@ -4,9 +4,9 @@ use Rattle.std.specs.Prelude.{codes}
 use Rattle.std.specs.List.{list_all}
 use Rattle.std.specs.Option.{option_copied}
 use Rattle.saved_parts.specs.Telling.{told_of, made_of}
-use Rattle.saved_rules.specs.Basis.{basis_of}
-use Rattle.saved_rules.specs.Rules as rules
-use Rattle.saved_rules.specs.Rules.{rule}
+use Rattle.saved_spec.specs.Basis.{basis_of}
+use Rattle.saved_spec.specs.Rules as rules
+use Rattle.saved_spec.specs.Rules.{rule}
 use Rattle.saved_checks.specs.Groups.{broken_in}
 use Rattle.saved_checks.proofs.Joined.{mapped}
 use Rattle.saved_checks.proofs.groups.of_devices.Goals as goal

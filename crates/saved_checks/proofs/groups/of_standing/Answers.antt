@@ -2,13 +2,13 @@
 use Rattle.std.proofs.Common.{◌≡◌, ◌&&◌, ◌||◌, not, [], ◌∷◌, length, ◌∙◌, pos, negsuc}
 use Rattle.std.specs.Prelude.{codes, nat_lt}
 use Rattle.std.specs.Option.{option_copied}
-use Rattle.script_machine.specs.declared.effects.Effect.TheVariants.{Brightness, Ghost}
-use Rattle.script_machine.specs.Effects.{effect_place}
-use Rattle.script_machine.specs.Stores.{record_of, is_on_stage}
+use Rattle.machine_spec.specs.declared.effects.Effect.TheVariants.{Brightness, Ghost}
+use Rattle.machine_spec.specs.Effects.{effect_place}
+use Rattle.machine_spec.specs.Stores.{record_of, is_on_stage}
 use Rattle.saved_parts.specs.Telling.{told_of, instance_of}
-use Rattle.saved_rules.specs.Basis.{basis_of, records_of}
-use Rattle.saved_rules.specs.Rules as rules
-use Rattle.saved_rules.specs.Rules.{rule}
+use Rattle.saved_spec.specs.Basis.{basis_of, records_of}
+use Rattle.saved_spec.specs.Rules as rules
+use Rattle.saved_spec.specs.Rules.{rule}
 use Rattle.saved_checks.specs.Groups.{broken_in}
 use Rattle.saved_checks.proofs.Joined.{mapped}
 use Rattle.saved_checks.proofs.StoresTold.{values-told, lists-told}

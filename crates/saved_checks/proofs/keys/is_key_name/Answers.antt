@@ -1,8 +1,8 @@
 -- A word is the name of its key; any other text is one character.
 use Rattle.std.proofs.Common.{ap, sym, ◌∙◌}
 use Rattle.std.specs.Prelude.{chars}
-use Rattle.script_machine.specs.ScriptText.{one_key}
-use Rattle.script_machine.specs.Sensing.{key_named}
+use Rattle.machine_spec.specs.ScriptText.{one_key}
+use Rattle.machine_spec.specs.Sensing.{key_named}
 use Rattle.saved_checks.proofs.OneKey.{spelled, word-named, no-word}
 use Rattle.saved_checks.proofs.keys.is_key_name.Goals as goal
 

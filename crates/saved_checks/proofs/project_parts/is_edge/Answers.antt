@@ -3,10 +3,10 @@ use Rattle.std.proofs.Common.{Bool, false, Option, ◌&&◌, ap, sym, ◌∙◌}
 use Rattle.std.specs.Option.{option_map_or}
 use Rattle.opcode_table.specs.Kinds.{hat_kind}
 use Rattle.opcode_table.specs.declared.shape.Role.TheVariants as role
-use Rattle.project_file.specs.declared.blocks.Block.{Block}
-use Rattle.project_file.specs.Linked.{has_role, is_head}
-use Rattle.project_file.specs.Trees.{op_by}
-use Rattle.script_machine.specs.Frame.{is_edge_hat}
+use Rattle.project_spec.specs.declared.blocks.Block.{Block}
+use Rattle.project_spec.specs.Linked.{has_role, is_head}
+use Rattle.project_spec.specs.Trees.{op_by}
+use Rattle.machine_spec.specs.Frame.{is_edge_hat}
 use Rattle.saved_checks.proofs.HatsOfTargets.{edge-told}
 use Rattle.saved_checks.proofs.project_parts.is_edge.Goals as goal
 

@@ -2,8 +2,8 @@
 use Rattle.std.proofs.Common.{Bool, false, Option, ◌&&◌, ap, sym, ◌∙◌}
 use Rattle.std.specs.Option.{option_map_or}
 use Rattle.opcode_table.specs.declared.shape.Role.TheVariants as role
-use Rattle.project_file.specs.declared.blocks.Block.{Block}
-use Rattle.project_file.specs.Linked.{has_role, is_head}
+use Rattle.project_spec.specs.declared.blocks.Block.{Block}
+use Rattle.project_spec.specs.Linked.{has_role, is_head}
 use Rattle.saved_checks.proofs.HatsOfTargets.{hat-told}
 use Rattle.saved_checks.proofs.project_parts.is_hat.Goals as goal
 

@@ -1,8 +1,8 @@
 -- Link by link, the block is where the chain has it.
 use Rattle.std.proofs.Common.{◌≡◌, ◌==◌, ◌<◌, false, sym, ap, subst, ◌∙◌, arith}
 use Rattle.project_check.specs.Loaded.{ranks_at, sheet_at}
-use Rattle.project_file.specs.Trees.{script}
-use Rattle.saved_rules.specs.Levels.{script_from}
+use Rattle.project_spec.specs.Trees.{script}
+use Rattle.saved_spec.specs.Levels.{script_from}
 use Rattle.saved_levels.proofs.Linked.{ends_none, ends_absent, finds_here, goes_on, fewer_left, left_at}
 use Rattle.saved_levels.proofs.chains.in_chain.Goals as goal
 

@@ -1,7 +1,7 @@
 use Rattle.std.proofs.Common.{◌≡◌}
 use Rattle.project_check.specs.Loaded.{ranks_at, sheet_at}
-use Rattle.project_file.specs.Trees.{script}
-use Rattle.saved_rules.specs.Levels.{script_from}
+use Rattle.project_spec.specs.Trees.{script}
+use Rattle.saved_spec.specs.Levels.{script_from}
 use Rattle.saved_levels.proofs.Linked.{left_at}
 use Rattle.saved_levels.proofs.chains.in_chain.Given as goal
 

@@ -1,6 +1,6 @@
 use Rattle.std.proofs.Common.{◌≡◌, drop}
 use Rattle.project_check.specs.Loaded.{sheet_at}
-use Rattle.saved_rules.specs.Levels.{script_among}
+use Rattle.saved_spec.specs.Levels.{script_among}
 use Rattle.saved_levels.specs.Found.{scripts_in}
 use Rattle.saved_levels.proofs.chains.in_inputs.Given as goal
 

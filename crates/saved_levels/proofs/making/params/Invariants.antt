@@ -2,7 +2,7 @@ use Rattle.std.proofs.Common.{◌≡◌, true, ◌++◌, map}
 use Rattle.std.specs.List.{list_all}
 use Rattle.std.specs.Vec.Iter.{into_iter_items}
 use Rattle.saved_parts.specs.Telling.{param_of}
-use Rattle.saved_rules.specs.Rules.{is_short}
+use Rattle.saved_spec.specs.Rules.{is_short}
 use Rattle.saved_levels.proofs.making.params.Given as goal
 
 -- the parameters so far, and those that are left, which are short

@@ -2,9 +2,9 @@
 use Rattle.std.proofs.Common.{Some, map, reverse, sym, ap, ◌∙◌, subst}
 use Rattle.std.proofs.lemmas.Result.{IfOk-weaker}
 use Rattle.project_check.specs.Loaded.{sheet_at}
-use Rattle.project_file.specs.Trees.{script}
+use Rattle.project_spec.specs.Trees.{script}
 use Rattle.saved_parts.specs.Telling.{level_of, thread_of}
-use Rattle.saved_rules.specs.Basis.{basis_of, script_under}
+use Rattle.saved_spec.specs.Basis.{basis_of, script_under}
 use Rattle.saved_levels.specs.Making.{is_short_level}
 use Rattle.saved_levels.specs.Read.{top_first}
 use Rattle.saved_levels.specs.Standing.{Places}

@@ -1,5 +1,5 @@
 use Rattle.std.proofs.Common.{◌≡◌, map, drop}
-use Rattle.saved_rules.specs.InstanceShapes as shape
+use Rattle.saved_spec.specs.InstanceShapes as shape
 use Rattle.saved_reading.proofs.instances.rises_above.Given as goal
 
 -- the blocks that are left are judged by the last one so far

@@ -1,7 +1,7 @@
 use Rattle.std.proofs.Common.{◌≡◌, length, map, drop}
-use Rattle.saved_rules.specs.Shapes.{each_from}
+use Rattle.saved_spec.specs.Shapes.{each_from}
 use Rattle.serde_json.specs.View.{view}
-use Rattle.shapes.specs.Each.{after}
+use Rattle.json_shapes.specs.Each.{after}
 use Rattle.saved_reading.proofs.parts.each_item.Given as goal
 
 -- the parts so far, one for each item, and those that are left

@@ -1,5 +1,5 @@
 use Rattle.std.proofs.Common.{◌≡◌, sym, ap, ◌∙◌, subst, rules}
-use Rattle.script_machine.specs.BubbleText.{IsShort, most_characters}
+use Rattle.machine_spec.specs.BubbleText.{IsShort, most_characters}
 use Rattle.saved_stores.proofs.Cutting.{take_all}
 use Rattle.saved_stores.proofs.bubbles.bubble.Goals as goal
 

@@ -1,5 +1,5 @@
 use Rattle.std.proofs.Common.{◌≡◌, ◌++◌, filter_map, drop}
-use Rattle.script_machine.specs.ScriptText.{key_of_rest}
+use Rattle.machine_spec.specs.ScriptText.{key_of_rest}
 use Rattle.saved_stores.proofs.keys.held.Given as goal
 
 -- the keys so far, and those of the names that are left

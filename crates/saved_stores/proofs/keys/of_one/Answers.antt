@@ -1,6 +1,6 @@
 use Rattle.std.proofs.Common.{◌≡◌, is_some, ap, sym, ◌∙◌}
 use Rattle.std.specs.Prelude.{Some, chars, slice_get}
-use Rattle.script_machine.specs.declared.devices.Key.TheVariants.{One}
+use Rattle.machine_spec.specs.declared.devices.Key.TheVariants.{One}
 use Rattle.saved_stores.proofs.OneKey.{key_past_char, many_keys, white_key, only_key, key_is}
 use Rattle.saved_stores.proofs.keys.of_one.Goals as goal
 use Rattle.saved_stores.proofs.keys.of_one.Goals.{then-is_some-via-then-is_some, then-is_some-via-else-is_some+then-is_whitespace}

@@ -2,7 +2,7 @@ use Rattle.std.proofs.Common.{◌≡◌, ◌++◌, map, true}
 use Rattle.std.specs.List.{list_all}
 use Rattle.std.specs.Vec.Iter.{into_iter_items}
 use Rattle.saved_parts.specs.Telling.{question_of}
-use Rattle.saved_rules.specs.Rules.{is_value_text}
+use Rattle.saved_spec.specs.Rules.{is_value_text}
 use Rattle.saved_parts.specs.declared.run.ToldQuestion.{ToldQuestion}
 use Rattle.saved_stores.proofs.questions.asked.Given as goal
 

@@ -2,7 +2,7 @@ use Rattle.std.proofs.Common.{◌≡◌, ◌++◌, map, true}
 use Rattle.std.specs.List.{list_all}
 use Rattle.std.specs.Vec.Iter.{into_iter_items}
 use Rattle.saved_parts.specs.Telling.{value_of}
-use Rattle.saved_rules.specs.Rules.{is_short}
+use Rattle.saved_spec.specs.Rules.{is_short}
 use Rattle.saved_stores.proofs.values.lists.Given as goal
 
 -- the lists so far, and those that are left

@@ -1,6 +1,6 @@
 -- What the passes so far left of the frame.
 use Rattle.std.proofs.Common.{◌≡◌, ◌-◌, true}
-use Rattle.script_machine.specs.Frame.{passes}
+use Rattle.machine_spec.specs.Frame.{passes}
 use Rattle.project_check.specs.Loaded.{program_of}
 use Rattle.executions.specs.Seen.{seen}
 use Rattle.executions.specs.Resting.{IsIdle}

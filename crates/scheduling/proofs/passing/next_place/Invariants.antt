@@ -1,6 +1,6 @@
 -- No thread before the place gets a slice.
 use Rattle.std.proofs.Common.{◌≡◌, drop}
-use Rattle.script_machine.specs.Slice as machine
+use Rattle.machine_spec.specs.Slice as machine
 use Rattle.project_check.specs.declared.project.Project.{Project}
 use Rattle.executions.specs.Seen.{seen_threads}
 use Rattle.scheduling.proofs.passing.next_place.Given as goal

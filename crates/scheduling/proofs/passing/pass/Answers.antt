@@ -1,6 +1,6 @@
 -- One more slice is one more of the pass.
 use Rattle.std.proofs.Common.{Bool, arith}
-use Rattle.script_machine.specs.Slice.{most_slices}
+use Rattle.machine_spec.specs.Slice.{most_slices}
 use Rattle.project_check.specs.Loaded.{program_of}
 use Rattle.executions.specs.Seen.{seen}
 use Rattle.scheduling.proofs.OnePass.{pass-over, pass-off, pass-on, pass-stop}

@@ -1,6 +1,6 @@
 -- What the slices so far left of the pass.
 use Rattle.std.proofs.Common.{◌≡◌, ◌-◌, false}
-use Rattle.script_machine.specs.Slice.{pass, most_slices}
+use Rattle.machine_spec.specs.Slice.{pass, most_slices}
 use Rattle.project_check.specs.Loaded.{program_of}
 use Rattle.executions.specs.Seen.{seen}
 use Rattle.executions.specs.Resting.{IsResting}

@@ -1,8 +1,8 @@
 -- One more execution is one more of the slice.
 use Rattle.std.proofs.Common.{◌≡◌, ◌+◌, ◌-◌, refl, sym, ap, ◌∙◌, subst, arith}
-use Rattle.script_machine.specs.Outcome.{Goes}
-use Rattle.script_machine.specs.declared.threads.Report.{Report}
-use Rattle.script_machine.specs.Slice.{executing, most_executions, slice}
+use Rattle.machine_spec.specs.Outcome.{Goes}
+use Rattle.machine_spec.specs.declared.threads.Report.{Report}
+use Rattle.machine_spec.specs.Slice.{executing, most_executions, slice}
 use Rattle.project_check.specs.Loaded.{program_of}
 use Rattle.executions.specs.Ready.{IsKept}
 use Rattle.executions.specs.Runners.{after_runner, with_runner}

@@ -1,6 +1,6 @@
 -- What the executions so far left of the slice.
 use Rattle.std.proofs.Common.{◌≡◌, ◌≤◌, ◌-◌}
-use Rattle.script_machine.specs.Slice.{slice, most_executions}
+use Rattle.machine_spec.specs.Slice.{slice, most_executions}
 use Rattle.thread_frames.specs.Levels.{warp_flag}
 use Rattle.project_check.specs.Loaded.{program_of}
 use Rattle.executions.specs.Runners.{IsRunner, with_runner}

@@ -1,7 +1,7 @@
 -- The running thread has a slice where its top level holds a block; else it has one empty level, and is done.
 use Rattle.std.proofs.Common.{◌≡◌, sym, subst}
 use Rattle.std.specs.Result.{IfOk}
-use Rattle.script_machine.specs.Outcome.{Goes, StopIs}
+use Rattle.machine_spec.specs.Outcome.{Goes, StopIs}
 use Rattle.executions.specs.Seen.{seen}
 use Rattle.scheduling.proofs.Turns.{turn_ready, turn_slices, turn_done, turn_kept}
 use Rattle.scheduling.proofs.slicing.turn.Goals as goal

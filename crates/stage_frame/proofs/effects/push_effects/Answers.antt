@@ -1,6 +1,6 @@
 use Rattle.std.proofs.Common.{[], ◌∷◌, sym, ◌∙◌, append-nil}
 use Rattle.std.specs.Prelude.{codes}
-use Rattle.script_machine.specs.FrameText.{effect_line}
+use Rattle.machine_spec.specs.FrameText.{effect_line}
 use Rattle.stage_frame.proofs.Turns.{named_more}
 use Rattle.stage_frame.proofs.effects.push_effects.Goals as goal
 

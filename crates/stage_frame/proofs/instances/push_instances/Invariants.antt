@@ -1,7 +1,7 @@
 use Rattle.std.proofs.Common.{◌≡◌, ◌++◌, drop}
 use Rattle.std.specs.Prelude.{flat_map}
 use Rattle.std.specs.List.{enumerate_from}
-use Rattle.script_machine.specs.FrameText.{instance_lines}
+use Rattle.machine_spec.specs.FrameText.{instance_lines}
 use Rattle.target_records.specs.Records.{records_in}
 use Rattle.stage_frame.proofs.instances.push_instances.Given as goal
 

@@ -1,6 +1,6 @@
 use Rattle.std.proofs.Common.{◌≡◌, ◌++◌, drop}
 use Rattle.std.specs.Prelude.{flat_map}
-use Rattle.script_machine.specs.FrameText.{item_line}
+use Rattle.machine_spec.specs.FrameText.{item_line}
 use Rattle.stage_frame.proofs.labels.push_items.Given as goal
 
 -- the lines so far, and then those of the items that are left

@@ -1,6 +1,6 @@
 use Rattle.std.proofs.Common.{◌≡◌, ◌++◌, drop}
 use Rattle.std.specs.Prelude.{flat_map}
-use Rattle.script_machine.specs.FrameText.{made_lines}
+use Rattle.machine_spec.specs.FrameText.{made_lines}
 use Rattle.target_records.specs.Records.{records_in}
 use Rattle.stage_frame.proofs.monitors.push_all_made.Given as goal
 

@@ -1,6 +1,6 @@
 use Rattle.std.proofs.Common.{◌≡◌, ◌++◌, map, refl, sym, ap, ◌∙◌, arith}
 use Rattle.std.specs.Prelude.{slice_get, unwrap_or}
-use Rattle.script_machine.specs.FrameText.{monitor_lines}
+use Rattle.machine_spec.specs.FrameText.{monitor_lines}
 use Rattle.target_records.specs.Records.{monitor_in, records_in}
 use Rattle.stage_frame.specs.declared.watches.Watch.TheVariants.{Nothing}
 use Rattle.stage_frame.specs.Found.{found_lines, watch_of}

@@ -1,7 +1,7 @@
 use Rattle.std.proofs.Common.{◌≡◌, ◌++◌, drop, map}
 use Rattle.std.specs.Prelude.{flat_map}
 use Rattle.std.specs.List.{zip}
-use Rattle.script_machine.specs.FrameText.{monitor_lines}
+use Rattle.machine_spec.specs.FrameText.{monitor_lines}
 use Rattle.target_records.specs.Records.{records_in, monitor_in}
 use Rattle.stage_frame.specs.Seen.{seen_stage}
 use Rattle.stage_frame.proofs.monitors.push_file_monitors.Given as goal

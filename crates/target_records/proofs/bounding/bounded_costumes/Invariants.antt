@@ -2,7 +2,7 @@ use Rattle.std.proofs.Common.{◌≡◌, ◌++◌, length}
 use Rattle.std.specs.Prelude.{flat_map}
 use Rattle.std.specs.List.{enumerate_from}
 use Rattle.std.specs.Vec.Iter.{into_iter_items}
-use Rattle.project_file.specs.Limits.{costume_measures, first_too_many}
+use Rattle.project_spec.specs.Limits.{costume_measures, first_too_many}
 use Rattle.target_records.proofs.bounding.bounded_costumes.Given as goal
 
 -- the names so far, and those that are left

@@ -1,8 +1,8 @@
 use Rattle.std.proofs.Common.{◌≡◌, ◌++◌, map, drop}
 use Rattle.std.specs.Prelude.{flat_map}
 use Rattle.std.specs.List.{enumerate_from}
-use Rattle.project_file.specs.FileValues.{value_in}
-use Rattle.project_file.specs.Limits.{item_measures, first_too_many}
+use Rattle.project_spec.specs.FileValues.{value_in}
+use Rattle.project_spec.specs.Limits.{item_measures, first_too_many}
 use Rattle.target_records.proofs.bounding.bounded_items.Given as goal
 
 -- the items so far, and those that are left

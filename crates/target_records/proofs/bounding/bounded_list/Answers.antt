@@ -1,10 +1,10 @@
 use Rattle.std.proofs.Common.{◌≡◌, ◌≤◌, ◌<◌, ◌∷◌, map, length, codes, Some, None, ap, ◌∙◌, subst, rules, arith}
 use Rattle.std.proofs.lemmas.List.{length-map}
 use Rattle.std.proofs.lemmas.Result.{err_from_is_err_and}
-use Rattle.shapes.specs.Places.{path}
-use Rattle.project_file.specs.FileValues.{value_in}
-use Rattle.project_file.specs.Limits.{measure, list_measures, id_or_none, first_too_many}
-use Rattle.script_machine.specs.declared.records.ListRecord.{ListRecord}
+use Rattle.json_shapes.specs.Places.{path}
+use Rattle.project_spec.specs.FileValues.{value_in}
+use Rattle.project_spec.specs.Limits.{measure, list_measures, id_or_none, first_too_many}
+use Rattle.machine_spec.specs.declared.records.ListRecord.{ListRecord}
 use Rattle.target_records.specs.Bounds.{IsTooManyAt}
 use Rattle.target_records.proofs.Counts.{bounds_stop, measure_over, list_items, second_place}
 use Rattle.target_records.proofs.bounding.bounded_list.Goals as goal

@@ -3,8 +3,8 @@ use Rattle.std.specs.List.{All}
 use Rattle.std.proofs.lemmas.List.Elements.{All-push}
 use Rattle.std.proofs.lemmas.Result.{err_from_is_err_and}
 use Rattle.std.specs.Vec.Iter.{into_iter_items}
-use Rattle.script_machine.specs.declared.records.ListRecord.{ListRecord}
-use Rattle.project_file.specs.Limits.{list_measures, id_or_none}
+use Rattle.machine_spec.specs.declared.records.ListRecord.{ListRecord}
+use Rattle.project_spec.specs.Limits.{list_measures, id_or_none}
 use Rattle.target_records.specs.Held.{IsShort}
 use Rattle.target_records.proofs.Counts.{turn_stop, turn_pass, turn_all}
 use Rattle.target_records.proofs.bounding.bounded_lists.Goals as goal

@@ -2,8 +2,8 @@ use Rattle.std.proofs.Common.{◌≡◌, ◌++◌}
 use Rattle.std.specs.Prelude.{flat_map}
 use Rattle.std.specs.List.{All}
 use Rattle.std.specs.Vec.Iter.{into_iter_items}
-use Rattle.project_file.specs.Limits.{list_measures, id_or_none, first_too_many}
-use Rattle.script_machine.specs.declared.records.ListRecord.{ListRecord}
+use Rattle.project_spec.specs.Limits.{list_measures, id_or_none, first_too_many}
+use Rattle.machine_spec.specs.declared.records.ListRecord.{ListRecord}
 use Rattle.target_records.specs.Held.{IsShort}
 use Rattle.target_records.proofs.bounding.bounded_lists.Given as goal
 

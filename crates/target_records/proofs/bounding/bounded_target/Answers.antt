@@ -1,7 +1,7 @@
 use Rattle.std.proofs.Common.{◌≡◌, None, ap, sym, ◌∙◌}
 use Rattle.std.proofs.lemmas.Result.{err_from_is_err_and}
-use Rattle.script_machine.specs.declared.records.TargetRecord.{TargetRecord}
-use Rattle.project_file.specs.Limits.{first_too_many, target_measures}
+use Rattle.machine_spec.specs.declared.records.TargetRecord.{TargetRecord}
+use Rattle.project_spec.specs.Limits.{first_too_many, target_measures}
 use Rattle.target_records.proofs.Counts.{bounds_stop, variables_in, lists_in, costumes_in, variables_stop, lists_stop, costumes_tell}
 use Rattle.target_records.proofs.bounding.bounded_target.Goals as goal
 

@@ -4,8 +4,8 @@ use Rattle.std.specs.Vec.Iter.{into_iter_items}
 use Rattle.std.proofs.lemmas.List.{length_push}
 use Rattle.std.proofs.lemmas.List.Elements.{All-push}
 use Rattle.std.proofs.lemmas.Result.{err_from_is_err_and}
-use Rattle.script_machine.specs.declared.records.TargetRecord.{TargetRecord}
-use Rattle.project_file.specs.Limits.{target_measures, target_place, first_too_many}
+use Rattle.machine_spec.specs.declared.records.TargetRecord.{TargetRecord}
+use Rattle.project_spec.specs.Limits.{target_measures, target_place, first_too_many}
 use Rattle.std.specs.Prelude.{flat_map}
 use Rattle.target_records.specs.Held.{IsSmall, HasShortLists}
 use Rattle.target_records.proofs.Counts.{turn_stop, turn_pass, turn_all}

@@ -2,8 +2,8 @@ use Rattle.std.proofs.Common.{◌≡◌, ◌++◌, length}
 use Rattle.std.specs.Prelude.{flat_map, ℕ}
 use Rattle.std.specs.List.{All, enumerate_from}
 use Rattle.std.specs.Vec.Iter.{into_iter_items}
-use Rattle.project_file.specs.Limits.{target_measures, target_place, first_too_many}
-use Rattle.script_machine.specs.declared.records.TargetRecord.{TargetRecord}
+use Rattle.project_spec.specs.Limits.{target_measures, target_place, first_too_many}
+use Rattle.machine_spec.specs.declared.records.TargetRecord.{TargetRecord}
 use Rattle.target_records.specs.Bounds.{lengths_in}
 use Rattle.target_records.specs.Held.{IsSmall, HasShortLists}
 use Rattle.target_records.proofs.bounding.bounded_targets.Given as goal

@@ -1,7 +1,7 @@
 use Rattle.std.proofs.Common.{◌≡◌, ◌∷◌, codes, ap, sym, ◌∙◌}
 use Rattle.std.proofs.lemmas.Result.{err_from_is_err_and}
-use Rattle.project_file.specs.FileValues.{value_in}
-use Rattle.project_file.specs.Limits.{value_measures, first_too_many}
+use Rattle.project_spec.specs.FileValues.{value_in}
+use Rattle.project_spec.specs.Limits.{value_measures, first_too_many}
 use Rattle.target_records.proofs.Counts.{bounds_stop, second_place}
 use Rattle.target_records.proofs.bounding.bounded_variable.Goals as goal
 

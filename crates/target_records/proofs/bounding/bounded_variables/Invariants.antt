@@ -1,8 +1,8 @@
 use Rattle.std.proofs.Common.{◌≡◌, ◌++◌}
 use Rattle.std.specs.Prelude.{flat_map}
 use Rattle.std.specs.Vec.Iter.{into_iter_items}
-use Rattle.project_file.specs.Limits.{variable_measures, id_or_none, first_too_many}
-use Rattle.script_machine.specs.declared.records.VariableRecord.{VariableRecord}
+use Rattle.project_spec.specs.Limits.{variable_measures, id_or_none, first_too_many}
+use Rattle.machine_spec.specs.declared.records.VariableRecord.{VariableRecord}
 use Rattle.target_records.proofs.bounding.bounded_variables.Given as goal
 
 -- the variables so far, and those that are left

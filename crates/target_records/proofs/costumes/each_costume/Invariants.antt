@@ -1,8 +1,8 @@
 use Rattle.std.proofs.Common.{◌≡◌, drop, map}
 use Rattle.project_json.specs.View.{tree}
-use Rattle.project_file.specs.Targets.{costume_of}
-use Rattle.shapes.specs.Shapes.{each, each_from}
-use Rattle.shapes.specs.Each.{after}
+use Rattle.project_spec.specs.Targets.{costume_of}
+use Rattle.json_shapes.specs.Shapes.{each, each_from}
+use Rattle.json_shapes.specs.Each.{after}
 use Rattle.target_records.proofs.costumes.each_costume.Given as goal
 
 -- the costumes so far, and those that are left

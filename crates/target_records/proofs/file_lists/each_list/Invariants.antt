@@ -1,8 +1,8 @@
 use Rattle.std.proofs.Common.{◌≡◌, drop, map}
 use Rattle.project_json.specs.View.{field}
-use Rattle.project_file.specs.Targets.{list_of}
-use Rattle.shapes.specs.Shapes.{each_member}
-use Rattle.shapes.specs.Each.{after}
+use Rattle.project_spec.specs.Targets.{list_of}
+use Rattle.json_shapes.specs.Shapes.{each_member}
+use Rattle.json_shapes.specs.Each.{after}
 use Rattle.target_records.proofs.file_lists.each_list.Given as goal
 
 -- the lists so far, and those that are left

@@ -1,9 +1,9 @@
 use Rattle.std.proofs.Common.{◌≡◌, drop, map}
 use Rattle.project_json.specs.View.{tree}
-use Rattle.project_file.specs.FileValues.{value_in}
-use Rattle.project_file.specs.Values as told
-use Rattle.shapes.specs.Shapes.{each, each_from}
-use Rattle.shapes.specs.Each.{after}
+use Rattle.project_spec.specs.FileValues.{value_in}
+use Rattle.project_spec.specs.Values as told
+use Rattle.json_shapes.specs.Shapes.{each, each_from}
+use Rattle.json_shapes.specs.Each.{after}
 use Rattle.target_records.proofs.file_lists.each_value.Given as goal
 
 -- the items so far, and those that are left

@@ -1,7 +1,7 @@
 use Rattle.std.proofs.Common.{◌<◌, ◌^◌, length, map, refl, arith}
 use Rattle.std.proofs.lemmas.List.{length-map}
 use Rattle.project_json.specs.View.{field}
-use Rattle.project_file.specs.Targets.{list_of}
+use Rattle.project_spec.specs.Targets.{list_of}
 use Rattle.target_records.proofs.Sizes.{few_read, each_member-length}
 use Rattle.target_records.proofs.file_lists.lists.Goals as goal
 

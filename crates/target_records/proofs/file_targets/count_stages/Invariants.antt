@@ -1,6 +1,6 @@
 use Rattle.std.proofs.Common.{◌≡◌, ◌+◌, ◌≤◌, drop}
 use Rattle.std.specs.List.{count_by}
-use Rattle.script_machine.specs.declared.records.TargetRecord.{TargetRecord}
+use Rattle.machine_spec.specs.declared.records.TargetRecord.{TargetRecord}
 use Rattle.target_records.proofs.file_targets.count_stages.Given as goal
 
 -- the stages so far, and those that are left

@@ -1,8 +1,8 @@
 use Rattle.std.proofs.Common.{◌≡◌, drop, map}
 use Rattle.project_json.specs.View.{tree}
-use Rattle.project_file.specs.Targets.{monitor_of}
-use Rattle.shapes.specs.Shapes.{each, each_from}
-use Rattle.shapes.specs.Each.{after}
+use Rattle.project_spec.specs.Targets.{monitor_of}
+use Rattle.json_shapes.specs.Shapes.{each, each_from}
+use Rattle.json_shapes.specs.Each.{after}
 use Rattle.target_records.specs.Records.{monitor_in}
 use Rattle.target_records.proofs.monitors.each_monitor.Given as goal
 

@@ -1,7 +1,7 @@
 use Rattle.std.proofs.Common.{◌+◌, map, length, drop, ap, arith}
 use Rattle.std.proofs.lemmas.List.{length-map, length_push}
 use Rattle.project_json.specs.View.{tree}
-use Rattle.project_file.specs.Targets.{target_of}
+use Rattle.project_spec.specs.Targets.{target_of}
 use Rattle.target_records.proofs.Sizes.{item-size, length-trees, drop_turn, after_turn}
 use Rattle.target_records.proofs.targets.read_targets.Goals as goal
 

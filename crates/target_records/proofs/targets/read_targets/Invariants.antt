@@ -1,8 +1,8 @@
 use Rattle.std.proofs.Common.{◌≡◌, length, drop, map}
 use Rattle.project_json.specs.View.{tree}
-use Rattle.project_file.specs.Targets.{target_of}
-use Rattle.shapes.specs.Shapes.{each, each_from}
-use Rattle.shapes.specs.Each.{after}
+use Rattle.project_spec.specs.Targets.{target_of}
+use Rattle.json_shapes.specs.Shapes.{each, each_from}
+use Rattle.json_shapes.specs.Each.{after}
 use Rattle.target_records.proofs.targets.read_targets.Given as goal
 
 -- the targets so far, and those that are left

@@ -1,6 +1,6 @@
 use Rattle.std.proofs.Common.{map, ap, ◌∙◌, rules}
 use Rattle.project_json.specs.View.{field}
-use Rattle.script_machine.specs.Costume.{costume_index}
+use Rattle.machine_spec.specs.Costume.{costume_index}
 use Rattle.target_records.specs.Looks.{look_in}
 use Rattle.target_records.proofs.TargetTold.{target_told}
 use Rattle.target_records.proofs.targets.target_by.Goals as goal

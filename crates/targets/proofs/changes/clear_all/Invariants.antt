@@ -1,5 +1,5 @@
 use Rattle.std.proofs.Common.{◌≡◌, ◌++◌, map, take, drop}
-use Rattle.script_machine.specs.Stopping.{cleared}
+use Rattle.machine_spec.specs.Stopping.{cleared}
 use Rattle.targets.proofs.changes.clear_all.Given as goal
 
 abbrev pub invariant-loop-place : goal.invariant-loop-place

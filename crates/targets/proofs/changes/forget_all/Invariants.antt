@@ -1,5 +1,5 @@
 use Rattle.std.proofs.Common.{◌≡◌, ◌++◌, map, take, drop}
-use Rattle.script_machine.specs.Line.{without_edges}
+use Rattle.machine_spec.specs.Line.{without_edges}
 use Rattle.targets.proofs.changes.forget_all.Given as goal
 
 abbrev pub invariant-loop-place : goal.invariant-loop-place

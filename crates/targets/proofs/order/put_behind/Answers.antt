@@ -2,8 +2,8 @@ use Rattle.std.proofs.Common.{◌≡◌, ℕ, List, Some, None, get_or, sym, ap,
 use Rattle.std.specs.Prelude.{◌==◌}
 use Rattle.std.specs.List.{position, insert, remove}
 use Rattle.std.proofs.lemmas.List.{get_or_default}
-use Rattle.script_machine.specs.declared.instance.Instance.{Instance}
-use Rattle.script_machine.specs.Stopping.{inserted_behind}
+use Rattle.machine_spec.specs.declared.instance.Instance.{Instance}
+use Rattle.machine_spec.specs.Stopping.{inserted_behind}
 use Rattle.targets.specs.Live.{numbers}
 use Rattle.targets.proofs.Cast.{position-numbers}
 use Rattle.targets.proofs.Moves.{numbers-insert, numbers-remove, get_or-numbers, inserted_behind_is, inserted_behind_none}

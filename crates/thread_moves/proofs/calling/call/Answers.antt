@@ -2,14 +2,14 @@
 use Rattle.std.proofs.Common.{◌≡◌, ◌∷◌, Some, None, true, sym, ap, ◌∙◌, refl, arith}
 use Rattle.std.specs.Prelude.{◌||◌, option_map}
 use Rattle.opcode_table.specs.Kinds.{kind}
-use Rattle.script_machine.specs.Keeping.{is_calls}
-use Rattle.script_machine.specs.Called.{called}
-use Rattle.script_machine.specs.Pending as machine
-use Rattle.script_machine.specs.Program.{procedure}
-use Rattle.script_machine.specs.Step.{entered_some}
+use Rattle.machine_spec.specs.Keeping.{is_calls}
+use Rattle.machine_spec.specs.Called.{called}
+use Rattle.machine_spec.specs.Pending as machine
+use Rattle.machine_spec.specs.Program.{procedure}
+use Rattle.machine_spec.specs.Step.{entered_some}
 use Rattle.project_check.specs.Loaded.{program_of, sheet_at}
 use Rattle.project_check.specs.Procedures.{callee_in, procedure_in}
-use Rattle.project_file.specs.Trees.{call_code}
+use Rattle.project_spec.specs.Trees.{call_code}
 use Rattle.thread_frames.specs.Levels.{new_level, on_top, at_next, with_params, warp_flag}
 use Rattle.thread_frames.specs.Reading.{pending}
 use Rattle.thread_moves.proofs.Moves.{told, next_is, cached, cached_is}

@@ -3,7 +3,7 @@ use Rattle.std.proofs.Common.{◌≡◌, sym, ap, ◌∙◌}
 use Rattle.std.specs.Prelude.{◌&&◌, bytes_eq}
 use Rattle.cached_blocks.proofs.Told.{held}
 use Rattle.project_check.specs.Loaded.{sheet_at}
-use Rattle.project_file.specs.Trees.{call_code}
+use Rattle.project_spec.specs.Trees.{call_code}
 use Rattle.thread_moves.proofs.calling.has_called.Goals as goal
 
 pub returns : goal.returns

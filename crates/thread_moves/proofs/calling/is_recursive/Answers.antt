@@ -2,7 +2,7 @@
 use Rattle.std.proofs.Common.{◌≡◌, ◌-◌, ◌+◌, Some, sym, ap, ◌∙◌, arith, drop}
 use Rattle.std.specs.Prelude.{◌||◌, slice_get}
 use Rattle.std.specs.Option.{option_copied}
-use Rattle.script_machine.specs.Pending as machine
+use Rattle.machine_spec.specs.Pending as machine
 use Rattle.project_check.specs.Loaded.{sheet_at}
 use Rattle.thread_frames.specs.Reading.{beneath}
 use Rattle.thread_moves.proofs.Recursion.{rec_start, rec_past, rec_step, rec_zero, stacked_at, stacked_drop}

@@ -1,6 +1,6 @@
 -- The levels from one on have as many markers to look at as are left.
 use Rattle.std.proofs.Common.{◌≡◌, ◌-◌, drop}
-use Rattle.script_machine.specs.Pending as machine
+use Rattle.machine_spec.specs.Pending as machine
 use Rattle.project_check.specs.Loaded.{sheet_at}
 use Rattle.thread_frames.specs.Reading.{pending, beneath}
 use Rattle.thread_moves.proofs.calling.is_recursive.Given as goal

@@ -2,9 +2,9 @@
 use Rattle.std.proofs.Common.{◌≡◌, ◌∷◌, ◌++◌, true, sym, ap, ◌∙◌, refl}
 use Rattle.std.specs.Prelude.{◌&&◌}
 use Rattle.opcode_table.specs.Kinds.{kind}
-use Rattle.script_machine.specs.Script.{branch_of}
-use Rattle.script_machine.specs.Keeping.{has_branches, under_fits}
-use Rattle.script_machine.specs.Pending.{dos, branch_marker, settle}
+use Rattle.machine_spec.specs.Script.{branch_of}
+use Rattle.machine_spec.specs.Keeping.{has_branches, under_fits}
+use Rattle.machine_spec.specs.Pending.{dos, branch_marker, settle}
 use Rattle.thread_frames.specs.Levels.{new_level, on_top, with_context, warp_flag}
 use Rattle.thread_moves.specs.Standing.{branch_link}
 use Rattle.thread_moves.proofs.Moves.{told, branch_is, branch_told, branch_held, cached}

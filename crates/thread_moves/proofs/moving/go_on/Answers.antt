@@ -1,6 +1,6 @@
 -- The top level has come to the next block.
 use Rattle.std.proofs.Common.{sym, ap, ◌∙◌, refl}
-use Rattle.script_machine.specs.Pending.{settle}
+use Rattle.machine_spec.specs.Pending.{settle}
 use Rattle.thread_frames.specs.Levels.{on_top, at_next, warp_flag}
 use Rattle.thread_moves.proofs.Moves.{told, next_is, cached_is}
 use Rattle.thread_moves.proofs.Settles.{IsAt-move}

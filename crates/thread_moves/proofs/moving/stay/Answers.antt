@@ -2,8 +2,8 @@
 use Rattle.std.proofs.Common.{◌≡◌, ◌∷◌, true, false}
 use Rattle.std.specs.Prelude.{◌&&◌}
 use Rattle.opcode_table.specs.Kinds.{kind}
-use Rattle.script_machine.specs.Keeping.{may_wait, top_fits}
-use Rattle.script_machine.specs.Pending.{kept}
+use Rattle.machine_spec.specs.Keeping.{may_wait, top_fits}
+use Rattle.machine_spec.specs.Pending.{kept}
 use Rattle.thread_frames.specs.Levels.{warp_flag}
 use Rattle.thread_moves.proofs.Moves.{told, stay_is, cached}
 use Rattle.thread_moves.proofs.moving.stay.Goals as goal

@@ -1,6 +1,6 @@
 -- What is given up is what the machine drops.
 use Rattle.std.proofs.Common.{length, sym, ap, ◌∙◌, arith}
-use Rattle.script_machine.specs.Pending.{unwind}
+use Rattle.machine_spec.specs.Pending.{unwind}
 use Rattle.thread_frames.proofs.Counts.{length-unwound}
 use Rattle.thread_moves.proofs.Moves.{told, unwound_to}
 use Rattle.thread_moves.proofs.Unwinds.{found_report, none_report}

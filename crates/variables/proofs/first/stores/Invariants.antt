@@ -1,6 +1,6 @@
 use Rattle.std.proofs.Common.{◌≡◌, ◌++◌, map, drop}
 use Rattle.std.specs.List.{enumerate_from}
-use Rattle.script_machine.specs.First.{store}
+use Rattle.machine_spec.specs.First.{store}
 use Rattle.variables.specs.First.{stores_of}
 use Rattle.variables.proofs.first.stores.Given as goal
 

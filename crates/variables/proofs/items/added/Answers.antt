@@ -1,6 +1,6 @@
 use Rattle.std.proofs.Common.{sym, ◌∙◌, arith}
 use Rattle.std.proofs.lemmas.Result.{on_ok_weaker}
-use Rattle.script_machine.specs.DataRows.{most_items}
+use Rattle.machine_spec.specs.DataRows.{most_items}
 use Rattle.variables.proofs.Limits.{pushed_short, push_full, short_when_cut}
 use Rattle.variables.proofs.items.added.Goals as goal
 

@@ -1,7 +1,7 @@
 use Rattle.std.proofs.Common.{◌-◌, sym, ap, ◌∙◌, arith}
 use Rattle.std.specs.List.{insert}
 use Rattle.std.proofs.lemmas.Result.{on_ok_weaker}
-use Rattle.script_machine.specs.DataRows.{most_items}
+use Rattle.machine_spec.specs.DataRows.{most_items}
 use Rattle.variables.proofs.Limits.{insert_short, short_when_cut}
 use Rattle.variables.proofs.items.inserted.Goals as goal
 

@@ -1,6 +1,6 @@
 use Rattle.std.proofs.Common.{◌-◌, take, sym, ap, ◌∙◌, arith}
 use Rattle.std.specs.List.{insert}
-use Rattle.script_machine.specs.DataRows.{most_items}
+use Rattle.machine_spec.specs.DataRows.{most_items}
 use Rattle.variables.proofs.Limits.{insert_behind, insert_full}
 use Rattle.variables.proofs.items.inserted_in_full.Goals as goal
 

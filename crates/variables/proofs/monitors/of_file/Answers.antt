@@ -1,7 +1,7 @@
 use Rattle.std.proofs.Common.{List, sym, ap, ◌∙◌}
 use Rattle.std.specs.List.{position}
-use Rattle.script_machine.specs.Program.{Monitor}
-use Rattle.script_machine.specs.Monitors.{is_some_same, what_shows}
+use Rattle.machine_spec.specs.Program.{Monitor}
+use Rattle.machine_spec.specs.Monitors.{is_some_same, what_shows}
 use Rattle.target_records.specs.declared.monitors.MonitorRecord.{MonitorRecord}
 use Rattle.target_records.specs.Records.{monitor_in, records_in}
 use Rattle.variables.proofs.Places.{position-map}

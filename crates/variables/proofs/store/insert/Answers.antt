@@ -1,6 +1,6 @@
 use Rattle.std.proofs.lemmas.Result.{on_ok_weaker, on_err_weaker}
 use Rattle.scratch_values.specs.declared.index.Index.TheVariants.{At}
-use Rattle.script_machine.specs.DataRows.{inserted}
+use Rattle.machine_spec.specs.DataRows.{inserted}
 use Rattle.variables.proofs.Kept.{list_put, list_back, alike_put}
 use Rattle.variables.proofs.store.insert.Goals as goal
 

@@ -1,5 +1,5 @@
 use Rattle.std.proofs.lemmas.Result.{on_ok_weaker, on_err_weaker}
-use Rattle.script_machine.specs.DataRows.{added}
+use Rattle.machine_spec.specs.DataRows.{added}
 use Rattle.variables.proofs.Kept.{list_put, list_back, alike_put}
 use Rattle.variables.proofs.store.push.Goals as goal
 

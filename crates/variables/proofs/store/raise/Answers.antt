@@ -1,7 +1,7 @@
 use Rattle.std.proofs.Common.{List, ap, sym, ◌∙◌}
 use Rattle.std.specs.Option.{option_copied}
 use Rattle.scratch_values.specs.declared.value.Value.{Value}
-use Rattle.script_machine.specs.declared.variables.Store.{Store}
+use Rattle.machine_spec.specs.declared.variables.Store.{Store}
 use Rattle.variables.proofs.Kept.{set-none}
 use Rattle.variables.proofs.store.raise.Goals as goal
 

@@ -1,5 +1,5 @@
 use Rattle.scratch_values.specs.declared.index.Index.TheVariants.{At}
-use Rattle.script_machine.specs.DataRows.{replaced}
+use Rattle.machine_spec.specs.DataRows.{replaced}
 use Rattle.variables.proofs.Kept.{list_put, alike_put}
 use Rattle.variables.proofs.store.replace.Goals as goal
 

@@ -1,5 +1,5 @@
 use Rattle.std.proofs.Common.{subst}
-use Rattle.project_file.specs.Linked.{IsClosed}
+use Rattle.project_spec.specs.Linked.{IsClosed}
 use Rattle.block_table.specs.Short.{HaveShortFields}
 use Rattle.block_table.specs.Table.{Numbered}
 use Rattle.block_table.proofs.table.BlockTable.blocks.Goals as goal

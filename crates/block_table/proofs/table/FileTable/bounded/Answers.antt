@@ -1,6 +1,6 @@
 use Rattle.std.proofs.Common.{◌≡◌, ◌∙◌, sym, ap, None}
-use Rattle.project_file.specs.Limits.{table_measures, first_too_many}
-use Rattle.project_file.specs.Reading.{Table}
+use Rattle.project_spec.specs.Limits.{table_measures, first_too_many}
+use Rattle.project_spec.specs.Reading.{Table}
 use Rattle.block_table.specs.Table.{numbered, table_in}
 use Rattle.block_table.proofs.Tables.{bounded_is_numbered, bounded_shows}
 use Rattle.block_table.proofs.table.FileTable.bounded.Goals as goal

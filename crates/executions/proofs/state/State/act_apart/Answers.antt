@@ -1,7 +1,7 @@
 -- The levels are given back, others are acted on, and a thread that has not ended is a runner again.
 use Rattle.std.proofs.Common.{◌≡◌, Err, sym}
-use Rattle.script_machine.specs.Outcome.{Goes, StopIs}
-use Rattle.script_machine.specs.declared.threads.Report.{Report}
+use Rattle.machine_spec.specs.Outcome.{Goes, StopIs}
+use Rattle.machine_spec.specs.declared.threads.Report.{Report}
 use Rattle.executions.specs.Runners.{with_runner}
 use Rattle.executions.specs.Seen.{seen}
 use Rattle.executions.proofs.Runs.{acts_given, acts_to, again}

@@ -1,6 +1,6 @@
 -- Each control does what its own function does.
 use Rattle.std.proofs.Common.{sym, ap, ◌∙◌}
-use Rattle.script_machine.specs.declared.threads.Control.TheVariants as control
+use Rattle.machine_spec.specs.declared.threads.Control.TheVariants as control
 use Rattle.executions.proofs.Beside.{acts_so, stops_so}
 use Rattle.executions.proofs.state.State.act_on_others.Goals as goal
 

@@ -1,7 +1,7 @@
 -- The copy is added, its hats are started as tasks are, and it is put behind its original.
 use Rattle.std.proofs.Common.{◌≡◌, ℕ, List, false}
 use Rattle.std.specs.Prelude.{◌==◌}
-use Rattle.script_machine.specs.Outcome.{last_number}
+use Rattle.machine_spec.specs.Outcome.{last_number}
 use Rattle.executions.proofs.Clones.{live_then, clone_goes, clone_runs, clone_kept, clone_stops}
 use Rattle.executions.proofs.state.State.add_clone.Goals as goal
 

@@ -1,7 +1,7 @@
 -- Data changes no instance, and gives variables to none that has none.
 use Rattle.std.proofs.Common.{refl, false}
-use Rattle.script_machine.specs.declared.threads.Context.TheVariants.{Fresh}
-use Rattle.script_machine.specs.declared.threads.Control.TheVariants.{Next}
+use Rattle.machine_spec.specs.declared.threads.Context.TheVariants.{Fresh}
+use Rattle.machine_spec.specs.declared.threads.Control.TheVariants.{Next}
 use Rattle.target_records.specs.Records.{records_in}
 use Rattle.data_blocks.specs.Blocks.{parts_of}
 use Rattle.executions.proofs.Unheld.{data_none}

@@ -2,9 +2,9 @@
 use Rattle.std.proofs.Common.{[], ◌∷◌, false, refl, sym, ap, ◌∙◌}
 use Rattle.scratch_values.specs.Args.{arguments}
 use Rattle.scratch_values.specs.Held.{pair_of}
-use Rattle.script_machine.specs.DataRows.{data_row}
-use Rattle.script_machine.specs.declared.threads.Control.TheVariants.{Next}
-use Rattle.script_machine.specs.declared.threads.Context.TheVariants.{Fresh}
+use Rattle.machine_spec.specs.DataRows.{data_row}
+use Rattle.machine_spec.specs.declared.threads.Control.TheVariants.{Next}
+use Rattle.machine_spec.specs.declared.threads.Context.TheVariants.{Fresh}
 use Rattle.target_records.specs.Records.{records_in}
 use Rattle.data_blocks.specs.Blocks.{parts_of}
 use Rattle.executions.proofs.Unheld.{data_none}

@@ -1,8 +1,8 @@
 -- The targets of the instance and of the stage have costumes, as all targets of a project have, and looks leave who is live and of which target.
 use Rattle.std.proofs.Common.{length, refl, sym, subst}
 use Rattle.std.specs.Prelude.{All}
-use Rattle.script_machine.specs.Program.{Records, stage_number}
-use Rattle.script_machine.specs.Stores.{instance_at}
+use Rattle.machine_spec.specs.Program.{Records, stage_number}
+use Rattle.machine_spec.specs.Stores.{instance_at}
 use Rattle.project_check.specs.Kept.{IsDressed}
 use Rattle.project_check.specs.Loaded.{program_of}
 use Rattle.looks_blocks.specs.Costumes.{HasCostumes}

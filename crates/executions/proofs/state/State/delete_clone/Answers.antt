@@ -1,7 +1,7 @@
 -- The instance and what is of it are gone, and so is the running thread; an original goes on.
 use Rattle.std.proofs.Common.{◌≡◌, true, false}
-use Rattle.script_machine.specs.declared.threads.Report.{Report}
-use Rattle.script_machine.specs.Stopping.{is_clone}
+use Rattle.machine_spec.specs.declared.threads.Report.{Report}
+use Rattle.machine_spec.specs.Stopping.{is_clone}
 use Rattle.project_check.specs.Loaded.{program_of}
 use Rattle.executions.proofs.Beside.{next_at, delete_stops, delete_goes, delete_after, original_goes, original_after}
 use Rattle.executions.proofs.state.State.delete_clone.Goals as goal

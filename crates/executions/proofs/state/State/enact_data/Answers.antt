@@ -1,6 +1,6 @@
 -- The row of a block of data, and then the runner goes on.
 use Rattle.std.proofs.Common.{refl}
-use Rattle.script_machine.specs.declared.threads.Report.{Report}
+use Rattle.machine_spec.specs.declared.threads.Report.{Report}
 use Rattle.executions.proofs.Plainly.{data_keeps}
 use Rattle.executions.proofs.Rowing.{data_at, data_stops, data_goes, data_after}
 use Rattle.executions.proofs.state.State.enact_data.Goals as goal

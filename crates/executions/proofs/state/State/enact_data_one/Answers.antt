@@ -2,7 +2,7 @@
 use Rattle.std.proofs.Common.{[], ◌∷◌, refl}
 use Rattle.scratch_values.specs.Args.{arguments}
 use Rattle.scratch_values.specs.Held.{pair_of}
-use Rattle.script_machine.specs.declared.threads.Report.{Report}
+use Rattle.machine_spec.specs.declared.threads.Report.{Report}
 use Rattle.executions.proofs.Plainly.{data_keeps}
 use Rattle.executions.proofs.Rowing.{data_at, data_stops, data_goes, data_after}
 use Rattle.executions.proofs.state.State.enact_data_one.Goals as goal

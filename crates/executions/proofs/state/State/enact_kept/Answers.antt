@@ -1,9 +1,9 @@
 -- The row and its control are those of the machine.
 use Rattle.std.proofs.Common.{◌≡◌, ◌∙◌, sym}
-use Rattle.script_machine.specs.declared.threads.Context.{Context}
-use Rattle.script_machine.specs.declared.threads.Control.{Control}
-use Rattle.script_machine.specs.declared.threads.Report.{Report}
-use Rattle.script_machine.specs.Outcome.{Goes, StopIs}
+use Rattle.machine_spec.specs.declared.threads.Context.{Context}
+use Rattle.machine_spec.specs.declared.threads.Control.{Control}
+use Rattle.machine_spec.specs.declared.threads.Report.{Report}
+use Rattle.machine_spec.specs.Outcome.{Goes, StopIs}
 use Rattle.executions.specs.Runners.{after_runner, with_runner}
 use Rattle.executions.specs.Seen.{seen}
 use Rattle.executions.proofs.Enacting.{both_ok, one_ok, stops_as}

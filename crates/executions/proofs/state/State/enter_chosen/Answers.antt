@@ -1,8 +1,8 @@
 -- The branch that was chosen is entered.
 use Rattle.std.proofs.Common.{refl}
-use Rattle.script_machine.specs.declared.threads.Control.TheVariants.{Branch}
-use Rattle.script_machine.specs.declared.threads.Report.{Report}
-use Rattle.script_machine.specs.Starting.{open_levels}
+use Rattle.machine_spec.specs.declared.threads.Control.TheVariants.{Branch}
+use Rattle.machine_spec.specs.declared.threads.Report.{Report}
+use Rattle.machine_spec.specs.Starting.{open_levels}
 use Rattle.thread_frames.specs.Threads.{frames}
 use Rattle.executions.specs.Runners.{given_back, with_runner}
 use Rattle.executions.proofs.Chosen.{room_stop}

@@ -3,9 +3,9 @@ use Rattle.std.proofs.Common.{◌≡◌, true, Some, ap}
 use Rattle.opcode_table.specs.declared.opcode.Opcode.{Opcode}
 use Rattle.opcode_table.specs.declared.opcode.Opcode.TheVariants.{ControlForever}
 use Rattle.scratch_values.specs.Named.{Arguments}
-use Rattle.script_machine.specs.Words.{seen_words}
-use Rattle.script_machine.specs.Outcome.{Goes, StopIs}
-use Rattle.script_machine.specs.declared.threads.Control.TheVariants.{Branch}
+use Rattle.machine_spec.specs.Words.{seen_words}
+use Rattle.machine_spec.specs.Outcome.{Goes, StopIs}
+use Rattle.machine_spec.specs.declared.threads.Control.TheVariants.{Branch}
 use Rattle.executions.specs.Choices.{chosen}
 use Rattle.executions.specs.Runners.{after_runner}
 use Rattle.executions.specs.Seen.{seen}

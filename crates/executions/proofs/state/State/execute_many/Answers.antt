@@ -1,8 +1,8 @@
 -- The inputs are evaluated, and then the block is enacted.
 use Rattle.std.proofs.Common.{◌≡◌, []}
 use Rattle.scratch_values.specs.Named.{Arguments}
-use Rattle.script_machine.specs.Outcome.{Goes, StopIs}
-use Rattle.script_machine.specs.declared.threads.Report.{Report}
+use Rattle.machine_spec.specs.Outcome.{Goes, StopIs}
+use Rattle.machine_spec.specs.declared.threads.Report.{Report}
 use Rattle.executions.specs.Runners.{after_runner}
 use Rattle.executions.specs.Seen.{seen}
 use Rattle.executions.proofs.Enacting.{one_ok, of_ok}

@@ -4,15 +4,15 @@ use Rattle.std.specs.Prelude.{slice_get}
 use Rattle.cached_blocks.specs.declared.block.CachedBlock.{CachedBlock}
 use Rattle.cached_blocks.specs.Cached.{cached_blocks}
 use Rattle.evaluate.specs.Seen.{fields_of}
-use Rattle.project_file.specs.Trees.{Sheet}
+use Rattle.project_spec.specs.Trees.{Sheet}
 use Rattle.scratch_values.specs.declared.held.Arg.{Arg}
 use Rattle.scratch_values.specs.declared.names.ResolvedField.{ResolvedField}
 use Rattle.scratch_values.specs.Args.{arguments}
 use Rattle.scratch_values.specs.Held.{pair_of}
 use Rattle.scratch_values.specs.Named.{Arguments}
-use Rattle.script_machine.specs.Words.{seen_words}
-use Rattle.script_machine.specs.Outcome.{Goes, StopIs}
-use Rattle.script_machine.specs.declared.threads.Report.{Report}
+use Rattle.machine_spec.specs.Words.{seen_words}
+use Rattle.machine_spec.specs.Outcome.{Goes, StopIs}
+use Rattle.machine_spec.specs.declared.threads.Report.{Report}
 use Rattle.executions.specs.Runners.{after_runner}
 use Rattle.executions.specs.Seen.{seen, sheets}
 use Rattle.executions.proofs.Enacting.{one_ok, of_ok}

@@ -1,7 +1,7 @@
 -- A block without inputs is enacted with its fields alone.
 use Rattle.std.proofs.Common.{◌≡◌}
-use Rattle.script_machine.specs.Words.{seen_words}
-use Rattle.script_machine.specs.Outcome.{Goes, StopIs}
+use Rattle.machine_spec.specs.Words.{seen_words}
+use Rattle.machine_spec.specs.Outcome.{Goes, StopIs}
 use Rattle.executions.specs.Runners.{after_runner}
 use Rattle.executions.specs.Seen.{seen}
 use Rattle.executions.proofs.Enacting.{one_ok}

@@ -1,7 +1,7 @@
 -- There is no thread, and the instances are the originals.
 use Rattle.std.proofs.Common.{ap, ◌∙◌, arith}
-use Rattle.script_machine.specs.Program.{Records}
-use Rattle.script_machine.specs.Stores.{Variables}
+use Rattle.machine_spec.specs.Program.{Records}
+use Rattle.machine_spec.specs.Stores.{Variables}
 use Rattle.variables.specs.First.{stores_of}
 use Rattle.targets.specs.First.{first_instances}
 use Rattle.executions.proofs.Keeping.{none_idle}

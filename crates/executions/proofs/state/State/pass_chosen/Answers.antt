@@ -1,6 +1,6 @@
 -- The runner goes on.
 use Rattle.std.proofs.Common.{refl}
-use Rattle.script_machine.specs.declared.threads.Control.TheVariants.{Next}
+use Rattle.machine_spec.specs.declared.threads.Control.TheVariants.{Next}
 use Rattle.executions.proofs.Rowing.{choice_at, choice_goes, choice_after}
 use Rattle.executions.proofs.state.State.pass_chosen.Goals as goal
 

@@ -1,6 +1,6 @@
 -- The hats are started as tasks are, and the running thread is the same.
 use Rattle.std.proofs.Common.{ℕ, List}
-use Rattle.script_machine.specs.declared.threads.Report.{Report}
+use Rattle.machine_spec.specs.declared.threads.Report.{Report}
 use Rattle.executions.proofs.Beside.{next_is, begun_at, start_goes, start_after, start_stops}
 use Rattle.executions.proofs.state.State.start_hats.Goals as goal
 

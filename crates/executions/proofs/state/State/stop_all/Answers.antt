@@ -1,8 +1,8 @@
 -- There is no thread, and the instances are those of the originals.
 use Rattle.std.proofs.Common.{◌≡◌, length, ap, ◌∙◌, sym, subst}
 use Rattle.std.specs.Prelude.{◌==◌, not, nat_lt}
-use Rattle.script_machine.specs.Program.{Records}
-use Rattle.script_machine.specs.declared.variables.Store.{Store}
+use Rattle.machine_spec.specs.Program.{Records}
+use Rattle.machine_spec.specs.declared.variables.Store.{Store}
 use Rattle.executions.specs.Ready.{ArePeopled, HasNoneFrom}
 use Rattle.project_check.specs.Loaded.{program_of}
 use Rattle.executions.proofs.Crew.{stopped}

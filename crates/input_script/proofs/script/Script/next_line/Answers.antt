@@ -1,5 +1,5 @@
 use Rattle.std.proofs.Common.{◌+◌, sym, ap, ◌∙◌}
-use Rattle.script_machine.specs.ScriptText.{reading_of}
+use Rattle.machine_spec.specs.ScriptText.{reading_of}
 use Rattle.input_script.specs.Reader.{Reader}
 use Rattle.input_script.proofs.Forward.{reading_forward}
 use Rattle.input_script.proofs.script.Script.next_line.Goals as goal

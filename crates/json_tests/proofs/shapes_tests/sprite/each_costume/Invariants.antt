@@ -1,8 +1,8 @@
 use Rattle.std.proofs.Common.{◌≡◌, drop, map}
 use Rattle.project_json.specs.View.{tree}
-use Rattle.shapes.specs.Shapes.{each, each_from}
-use Rattle.shapes.specs.Each.{after}
-use Rattle.shapes.specs.Example.{costume_of}
+use Rattle.json_shapes.specs.Shapes.{each, each_from}
+use Rattle.json_shapes.specs.Each.{after}
+use Rattle.json_shapes.specs.Example.{costume_of}
 use Rattle.json_tests.proofs.shapes_tests.sprite.each_costume.Given as goal
 
 -- the costumes so far, and those that are left

@@ -1,6 +1,6 @@
 use Rattle.std.proofs.Common.{◌≡◌, sym, subst}
 use Rattle.std.specs.List.{slice_index_or}
-use Rattle.project_file.specs.Linked.{IsClosed}
+use Rattle.project_spec.specs.Linked.{IsClosed}
 use Rattle.project_check.proofs.Resolved.{blocks_here}
 use Rattle.project_check.proofs.project.Project.blocks.Goals as goal
 

@@ -1,5 +1,5 @@
 -- A frame keeps a legal world legal.
-use Rattle.script_machine.specs.declared.lines.Line.TheVariants.{Frame}
+use Rattle.machine_spec.specs.declared.lines.Line.TheVariants.{Frame}
 use Rattle.project_check.specs.Loaded.{program_of}
 use Rattle.executions.specs.Seen.{seen}
 use Rattle.sequencer.proofs.Legal.{legal_behind}

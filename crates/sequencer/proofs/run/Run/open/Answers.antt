@@ -1,9 +1,9 @@
 -- The first world is legal.
 use Rattle.std.proofs.Common.{subst, sym}
-use Rattle.script_machine.specs.Tasks.{Task}
-use Rattle.script_machine.specs.Words.{seen_words}
-use Rattle.script_machine.specs.World.{World}
-use Rattle.legal_worlds.specs.Runs.{OpensLegal}
+use Rattle.machine_spec.specs.Tasks.{Task}
+use Rattle.machine_spec.specs.Words.{seen_words}
+use Rattle.machine_spec.specs.World.{World}
+use Rattle.laws_of_worlds.specs.Runs.{OpensLegal}
 use Rattle.project_check.specs.Loaded.{program_of}
 use Rattle.sequencer.proofs.run.Run.open.Goals as goal
 

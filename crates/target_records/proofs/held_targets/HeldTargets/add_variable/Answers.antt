@@ -2,9 +2,9 @@ use Rattle.std.proofs.Common.{◌≡◌, ◌<◌, length, Some, ap, sym, ◌∙�
 use Rattle.std.specs.Prelude.{slice_get}
 use Rattle.std.proofs.lemmas.Option.{slice_get-get_or}
 use Rattle.std.proofs.lemmas.Result.{IfOk-weaker, on_ok_weaker}
-use Rattle.script_machine.specs.declared.records.TargetRecord.{TargetRecord}
-use Rattle.script_machine.specs.Program.{no_target}
-use Rattle.project_file.specs.Resolving.{with_added, OfVariable}
+use Rattle.machine_spec.specs.declared.records.TargetRecord.{TargetRecord}
+use Rattle.machine_spec.specs.Program.{no_target}
+use Rattle.project_spec.specs.Resolving.{with_added, OfVariable}
 use Rattle.target_records.specs.Held.{IsSmall, HasShortLists}
 use Rattle.target_records.proofs.Held.{held-set, variable_keeps, variable_keeps_short, set-changed, record-at}
 use Rattle.target_records.proofs.held_targets.HeldTargets.add_variable.Goals as goal

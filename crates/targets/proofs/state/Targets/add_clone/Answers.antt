@@ -1,9 +1,9 @@
 use Rattle.std.proofs.Common.{◌≡◌, ℕ, List, [], ◌∷◌, ◌++◌, length, get_or, sym, ap, ap₂, ◌∙◌, arith}
 use Rattle.std.specs.List.{insert}
 use Rattle.std.proofs.lemmas.List.Edits.{insert_end}
-use Rattle.script_machine.specs.declared.instance.Instance.{Instance}
-use Rattle.script_machine.specs.Stopping.{copied}
-use Rattle.script_machine.specs.Stores.{live, instance_at}
+use Rattle.machine_spec.specs.declared.instance.Instance.{Instance}
+use Rattle.machine_spec.specs.Stopping.{copied}
+use Rattle.machine_spec.specs.Stores.{live, instance_at}
 use Rattle.targets.proofs.Cast.{live_is_placed, instance_at_is}
 use Rattle.targets.proofs.Moves.{live-pushed}
 use Rattle.targets.proofs.state.Targets.add_clone.Goals as goal

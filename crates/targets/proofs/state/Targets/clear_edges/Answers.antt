@@ -1,7 +1,7 @@
 use Rattle.std.proofs.Common.{◌≡◌, List, ◌++◌, length, take, drop, map, refl, sym, subst, ap, ◌∙◌, arith}
 use Rattle.std.proofs.lemmas.List.{take_at, length-map}
-use Rattle.script_machine.specs.declared.instance.Instance.{Instance}
-use Rattle.script_machine.specs.Line.{without_edges}
+use Rattle.machine_spec.specs.declared.instance.Instance.{Instance}
+use Rattle.machine_spec.specs.Line.{without_edges}
 use Rattle.targets.specs.Live.{IsSameCast, numbers}
 use Rattle.targets.proofs.Cast.{cast-map}
 use Rattle.targets.proofs.Moves.{numbers-map}

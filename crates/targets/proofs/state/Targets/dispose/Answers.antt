@@ -1,7 +1,7 @@
 use Rattle.std.proofs.Common.{◌≡◌, ℕ, List, sym, ap, ◌∙◌}
 use Rattle.std.specs.List.{remove}
-use Rattle.script_machine.specs.declared.instance.Instance.{Instance}
-use Rattle.script_machine.specs.Stores.{live, no_instance}
+use Rattle.machine_spec.specs.declared.instance.Instance.{Instance}
+use Rattle.machine_spec.specs.Stores.{live, no_instance}
 use Rattle.targets.specs.Live.{numbers}
 use Rattle.targets.proofs.Moves.{numbers-remove, live-removed}
 use Rattle.targets.proofs.state.Targets.dispose.Goals as goal

@@ -1,6 +1,6 @@
 use Rattle.std.proofs.Common.{List, Some, get_or, sym, ap, ◌∙◌}
 use Rattle.std.specs.Prelude.{◌==◌}
-use Rattle.script_machine.specs.declared.instance.Instance.{Instance}
+use Rattle.machine_spec.specs.declared.instance.Instance.{Instance}
 use Rattle.targets.proofs.Places.{find_is, find_none}
 use Rattle.targets.proofs.state.Targets.get.Goals as goal
 

@@ -1,8 +1,8 @@
 use Rattle.std.proofs.Common.{List, get_or, not, sym, ap, ◌∙◌}
 use Rattle.std.specs.Prelude.{nat_lt, ◌||◌}
-use Rattle.script_machine.specs.declared.instance.Instance.{Instance}
-use Rattle.script_machine.specs.Stores.{no_instance}
-use Rattle.script_machine.specs.Stopping.{most_clones}
+use Rattle.machine_spec.specs.declared.instance.Instance.{Instance}
+use Rattle.machine_spec.specs.Stores.{no_instance}
+use Rattle.machine_spec.specs.Stopping.{most_clones}
 use Rattle.targets.specs.Clones.{clones_in, is_of_first}
 use Rattle.targets.proofs.Cast.{live_is_placed, instance_at_is}
 use Rattle.targets.proofs.state.Targets.lacks_room.Goals as goal

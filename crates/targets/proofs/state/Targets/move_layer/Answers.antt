@@ -2,8 +2,8 @@ use Rattle.std.proofs.Common.{◌≡◌, ℕ, ◌-◌, ◌<◌, List, length, ge
 use Rattle.std.specs.Prelude.{◌==◌}
 use Rattle.std.specs.List.{position, insert, remove}
 use Rattle.std.proofs.lemmas.List.Edits.{length-remove}
-use Rattle.script_machine.specs.declared.instance.Instance.{Instance}
-use Rattle.script_machine.specs.Stores.{no_instance, instance_at}
+use Rattle.machine_spec.specs.declared.instance.Instance.{Instance}
+use Rattle.machine_spec.specs.Stores.{no_instance, instance_at}
 use Rattle.targets.specs.Layers.{layer_to}
 use Rattle.targets.specs.Live.{numbers}
 use Rattle.targets.proofs.Places.{position_is}

@@ -1,7 +1,7 @@
 use Rattle.std.proofs.Common.{ℕ, List, ap, ◌∙◌}
 use Rattle.std.specs.Prelude.{◌==◌}
 use Rattle.std.specs.List.{position}
-use Rattle.script_machine.specs.declared.instance.Instance.{Instance}
+use Rattle.machine_spec.specs.declared.instance.Instance.{Instance}
 use Rattle.targets.proofs.Cast.{position-numbers}
 use Rattle.targets.proofs.state.Targets.place.Goals as goal
 

@@ -1,13 +1,13 @@
 use Rattle.std.proofs.Common.{◌≡◌, List, get_or, Some, sym, ap, ap₂, ◌∙◌}
 use Rattle.std.specs.Prelude.{◌==◌}
 use Rattle.std.specs.List.{position, remove}
-use Rattle.script_machine.specs.declared.instance.Instance.{Instance}
-use Rattle.script_machine.specs.Lists.{removed_at}
-use Rattle.script_machine.specs.Stopping.{inserted_behind}
-use Rattle.script_machine.specs.Stores.{no_instance}
+use Rattle.machine_spec.specs.declared.instance.Instance.{Instance}
+use Rattle.machine_spec.specs.Lists.{removed_at}
+use Rattle.machine_spec.specs.Stopping.{inserted_behind}
+use Rattle.machine_spec.specs.Stores.{no_instance}
 use Rattle.targets.proofs.Cast.{live_is_placed, instance_at_is}
 use Rattle.std.specs.List.{list_any}
-use Rattle.script_machine.specs.Stopping.{placed_behind}
+use Rattle.machine_spec.specs.Stopping.{placed_behind}
 use Rattle.targets.proofs.Same.{any-behind}
 use Rattle.targets.proofs.state.Targets.place_behind.Goals as goal
 

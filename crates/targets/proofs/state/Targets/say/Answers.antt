@@ -1,5 +1,5 @@
 use Rattle.std.proofs.Common.{List, get_or, sym, subst, ap, ◌∙◌}
-use Rattle.script_machine.specs.declared.instance.Instance.{Instance}
+use Rattle.machine_spec.specs.declared.instance.Instance.{Instance}
 use Rattle.targets.specs.Live.{IsSameCast}
 use Rattle.targets.proofs.Cast.{instance_at_is, instance_at_none, on_instance_none, changed_is, cast-on_instance, cast_same, order-set, bubble_keeps}
 use Rattle.targets.proofs.state.Targets.say.Goals as goal

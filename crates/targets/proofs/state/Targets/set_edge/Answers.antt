@@ -1,7 +1,7 @@
 use Rattle.std.proofs.Common.{◌≡◌, ℕ, List, Bool, Option, false, ap, ◌∙◌}
 use Rattle.std.specs.Prelude.{unwrap_or}
-use Rattle.script_machine.specs.Frame.{with_edge}
-use Rattle.script_machine.specs.Stores.{instance_at}
+use Rattle.machine_spec.specs.Frame.{with_edge}
+use Rattle.machine_spec.specs.Stores.{instance_at}
 use Rattle.targets.specs.Edges.{edge_of}
 use Rattle.targets.proofs.Again.{put_changed, put_back}
 use Rattle.targets.proofs.Recording.{recorded_is}

@@ -3,9 +3,9 @@ use Rattle.std.specs.Prelude.{nat_lt}
 use Rattle.std.specs.List.{filter}
 use Rattle.std.proofs.lemmas.Fn.{filter_same}
 use Rattle.std.proofs.lemmas.List.{take_at, length-map}
-use Rattle.script_machine.specs.declared.instance.Instance.{Instance}
-use Rattle.script_machine.specs.Stopping.{cleared}
-use Rattle.script_machine.specs.Stores.{live}
+use Rattle.machine_spec.specs.declared.instance.Instance.{Instance}
+use Rattle.machine_spec.specs.Stopping.{cleared}
+use Rattle.machine_spec.specs.Stores.{live}
 use Rattle.targets.specs.Live.{numbers}
 use Rattle.targets.proofs.Moves.{numbers-filter, numbers-map, kept_twice}
 use Rattle.std.specs.Prelude.{option_map}

@@ -1,5 +1,5 @@
 use Rattle.std.proofs.Common.{List, get_or, sym, ap, ◌∙◌}
-use Rattle.script_machine.specs.declared.instance.Instance.{Instance}
+use Rattle.machine_spec.specs.declared.instance.Instance.{Instance}
 use Rattle.targets.proofs.Cast.{instance_at_is, instance_at_none}
 use Rattle.targets.proofs.state.Targets.target.Goals as goal
 

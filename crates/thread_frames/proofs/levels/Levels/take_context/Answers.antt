@@ -1,5 +1,5 @@
 use Rattle.std.proofs.Common.{arith}
-use Rattle.script_machine.specs.declared.threads.Context.TheVariants.{Fresh}
+use Rattle.machine_spec.specs.declared.threads.Context.TheVariants.{Fresh}
 use Rattle.thread_frames.specs.Levels.{with_context}
 use Rattle.thread_frames.proofs.Tops.{top_changed}
 use Rattle.thread_frames.proofs.levels.Levels.take_context.Goals as goal

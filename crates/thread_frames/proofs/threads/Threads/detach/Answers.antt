@@ -1,5 +1,5 @@
 use Rattle.std.proofs.Common.{◌≡◌, length, sym, ap, ◌∙◌}
-use Rattle.script_machine.specs.Places.{Places}
+use Rattle.machine_spec.specs.Places.{Places}
 use Rattle.thread_frames.specs.Threads.{Thread, without_detached}
 use Rattle.thread_frames.proofs.Restarts.{detached_count}
 use Rattle.thread_frames.proofs.Indexed.{first_replaced}

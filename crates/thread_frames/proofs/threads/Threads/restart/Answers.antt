@@ -1,5 +1,5 @@
 use Rattle.std.proofs.Common.{◌≡◌, length, ap, sym, ◌∙◌, arith}
-use Rattle.script_machine.specs.declared.threads.Which.TheVariants.{Slot}
+use Rattle.machine_spec.specs.declared.threads.Which.TheVariants.{Slot}
 use Rattle.thread_frames.specs.Threads.{Thread}
 use Rattle.thread_frames.proofs.Counts.{own_count, put_count, same_count, put_same}
 use Rattle.thread_frames.proofs.Restarts.{is_full, has_room, restarted-false}

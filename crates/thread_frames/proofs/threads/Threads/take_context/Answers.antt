@@ -1,5 +1,5 @@
 use Rattle.std.proofs.Common.{refl}
-use Rattle.script_machine.specs.declared.threads.Context.TheVariants.{Fresh}
+use Rattle.machine_spec.specs.declared.threads.Context.TheVariants.{Fresh}
 use Rattle.thread_frames.specs.Levels.{with_context}
 use Rattle.thread_frames.proofs.Counts.{top_count}
 use Rattle.thread_frames.proofs.Indexed.{kept_put}

@@ -1,5 +1,5 @@
 use Rattle.std.proofs.Common.{refl, sym, ◌∙◌}
-use Rattle.script_machine.specs.Threads.{among}
+use Rattle.machine_spec.specs.Threads.{among}
 use Rattle.thread_frames.specs.Threads.{listed}
 use Rattle.thread_frames.proofs.Waits.{wait_by-none, wait_by-more, yields, sees, passes}
 use Rattle.thread_frames.proofs.threads.Threads.wait_for.Goals as goal

@@ -1,5 +1,5 @@
 use Rattle.std.proofs.Common.{◌≡◌, drop}
-use Rattle.script_machine.specs.Threads.{among, wait_for}
+use Rattle.machine_spec.specs.Threads.{among, wait_for}
 use Rattle.thread_frames.specs.Threads.{listed}
 use Rattle.thread_frames.proofs.Waits.{wait_by}
 use Rattle.thread_frames.proofs.threads.Threads.wait_for.Given as goal

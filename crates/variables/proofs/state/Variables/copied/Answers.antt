@@ -2,8 +2,8 @@
 use Rattle.std.proofs.Common.{get_or, sym, subst, ap, ◌∙◌}
 use Rattle.std.proofs.lemmas.List.Elements.{All-nil}
 use Rattle.std.proofs.lemmas.Result.{IfOk-weaker}
-use Rattle.script_machine.specs.declared.variables.Store.{Store}
-use Rattle.script_machine.specs.Stores.{Variables}
+use Rattle.machine_spec.specs.declared.variables.Store.{Store}
+use Rattle.machine_spec.specs.Stores.{Variables}
 use Rattle.variables.specs.Kept.{IsShort, HasShortLists}
 use Rattle.variables.proofs.Kept.{short_is}
 use Rattle.variables.proofs.Shapes.{store_at_is, store_at_none}

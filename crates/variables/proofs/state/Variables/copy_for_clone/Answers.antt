@@ -3,8 +3,8 @@ use Rattle.std.proofs.Common.{◌≡◌, List, ◌++◌, ◌∷◌, [], None, sy
 use Rattle.std.specs.Prelude.{◌==◌}
 use Rattle.std.specs.List.{find, All}
 use Rattle.std.proofs.lemmas.List.Elements.{All-push}
-use Rattle.script_machine.specs.declared.variables.Store.{Store}
-use Rattle.script_machine.specs.Stores.{Variables, store_at}
+use Rattle.machine_spec.specs.declared.variables.Store.{Store}
+use Rattle.machine_spec.specs.Stores.{Variables, store_at}
 use Rattle.variables.specs.Kept.{HasShortLists}
 use Rattle.variables.specs.Distinct.{numbers, IsDistinct}
 use Rattle.variables.proofs.Apart.{IsDistinct-added}

@@ -1,7 +1,7 @@
 use Rattle.std.proofs.Common.{◌≡◌, length, get_or, sym, ap, ◌∙◌, arith}
 use Rattle.std.proofs.lemmas.Bool.Decides.{nat_tests}
-use Rattle.script_machine.specs.declared.variables.Store.{Store}
-use Rattle.script_machine.specs.Stores.{Variables, store_at}
+use Rattle.machine_spec.specs.declared.variables.Store.{Store}
+use Rattle.machine_spec.specs.Stores.{Variables, store_at}
 use Rattle.variables.proofs.Shapes.{store_at_is, items_are_placed}
 use Rattle.variables.proofs.state.Variables.has_items.Goals as goal
 

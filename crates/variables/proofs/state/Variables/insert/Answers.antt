@@ -2,7 +2,7 @@ use Rattle.std.proofs.Common.{sym, ◌∙◌}
 use Rattle.scratch_values.specs.declared.index.Index.TheVariants.{At}
 use Rattle.std.proofs.Common.{List}
 use Rattle.scratch_values.specs.declared.value.Value.{Value}
-use Rattle.script_machine.specs.DataRows.{inserted}
+use Rattle.machine_spec.specs.DataRows.{inserted}
 use Rattle.std.proofs.lemmas.Result.{on_ok_weaker}
 use Rattle.variables.proofs.Kept.{kept_is}
 use Rattle.variables.proofs.Shapes.{list_changed_is, shape_is}

@@ -1,8 +1,8 @@
 use Rattle.std.proofs.Common.{◌≡◌, List, [], ◌∷◌, Bool, map, refl, sym, subst, ap, ap₂, ◌∙◌}
-use Rattle.script_machine.specs.declared.variables.Store.{Store}
-use Rattle.script_machine.specs.declared.variables.Made.{Made}
-use Rattle.script_machine.specs.Program.{Monitor}
-use Rattle.script_machine.specs.Stores.{Variables}
+use Rattle.machine_spec.specs.declared.variables.Store.{Store}
+use Rattle.machine_spec.specs.declared.variables.Made.{Made}
+use Rattle.machine_spec.specs.Program.{Monitor}
+use Rattle.machine_spec.specs.Stores.{Variables}
 use Rattle.target_records.specs.declared.monitors.MonitorRecord.{MonitorRecord}
 use Rattle.target_records.specs.Records.{monitor_in}
 use Rattle.variables.specs.First.{stores_of}

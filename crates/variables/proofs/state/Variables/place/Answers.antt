@@ -2,8 +2,8 @@ use Rattle.std.proofs.Common.{◌<◌, length, sym, ap, ◌∙◌, arith}
 use Rattle.std.specs.List.{position}
 use Rattle.std.specs.Prelude.{◌==◌}
 use Rattle.std.proofs.lemmas.Bool.{eqb-true}
-use Rattle.script_machine.specs.Stores.{Variables}
-use Rattle.script_machine.specs.declared.variables.Store.{Store}
+use Rattle.machine_spec.specs.Stores.{Variables}
+use Rattle.machine_spec.specs.declared.variables.Store.{Store}
 use Rattle.variables.proofs.Apart.{found_at}
 use Rattle.variables.proofs.state.Variables.place.Goals as goal
 

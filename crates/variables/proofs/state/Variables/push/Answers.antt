@@ -1,7 +1,7 @@
 use Rattle.std.proofs.Common.{sym, ◌∙◌}
 use Rattle.std.proofs.Common.{List}
 use Rattle.scratch_values.specs.declared.value.Value.{Value}
-use Rattle.script_machine.specs.DataRows.{added}
+use Rattle.machine_spec.specs.DataRows.{added}
 use Rattle.std.proofs.lemmas.Result.{on_ok_weaker}
 use Rattle.variables.proofs.Kept.{kept_is}
 use Rattle.variables.proofs.Shapes.{list_changed_is, shape_is}

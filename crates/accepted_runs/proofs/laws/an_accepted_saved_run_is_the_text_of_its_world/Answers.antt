@@ -1,5 +1,0 @@
-use Rattle.accepted_runs.proofs.Written.{accepted_is_written}
-use Rattle.accepted_runs.proofs.laws.an_accepted_saved_run_is_the_text_of_its_world.Goals as goal
-
-pub returns : goal.returns
-returns c = accepted_is_written

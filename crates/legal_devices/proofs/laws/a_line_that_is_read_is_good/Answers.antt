@@ -1,5 +1,0 @@
-use Rattle.legal_devices.proofs.Reading.{reading_good}
-use Rattle.legal_devices.proofs.laws.a_line_that_is_read_is_good.Goals as goal
-
-pub returns : goal.returns
-returns c = reading_good

@@ -1,5 +1,0 @@
-use Rattle.legal_variables.proofs.First.{first_variables}
-use Rattle.legal_variables.proofs.laws.the_first_world_has_legal_variables.Goals as goal
-
-pub returns : goal.returns
-returns c = first_variables

@@ -1,5 +1,0 @@
-use Rattle.legal_words.proofs.Sourced.{first_of_seed}
-use Rattle.legal_words.proofs.laws.the_first_words_are_of_the_seed.Goals as goal
-
-pub returns : goal.returns
-returns c = first_of_seed

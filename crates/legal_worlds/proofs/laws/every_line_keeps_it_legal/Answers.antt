@@ -1,5 +1,0 @@
-use Rattle.legal_worlds.proofs.Lines.{line_keeps_legal}
-use Rattle.legal_worlds.proofs.laws.every_line_keeps_it_legal.Goals as goal
-
-pub returns : goal.returns
-returns c = line_keeps_legal

@@ -1,5 +1,0 @@
-use Rattle.legal_worlds.proofs.Lines.{last_legal}
-use Rattle.legal_worlds.proofs.laws.the_last_world_is_legal.Goals as goal
-
-pub returns : goal.returns
-returns c = last_legal

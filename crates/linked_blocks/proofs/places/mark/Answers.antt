@@ -1,5 +1,0 @@
-use Rattle.linked_blocks.proofs.Marking.{marking_one}
-use Rattle.linked_blocks.proofs.places.mark.Goals as goal
-
-pub returns-then-not-fits : goal.returns-then-not-fits
-returns-then-not-fits c = λ b. rw c.if-not-fits.true (marking_one c.args.marks.now c.args.place b c.requires)

@@ -1,6 +1,0 @@
-use Rattle.std.proofs.Common.{take}
-use Rattle.linked_blocks.specs.Marks.{IsMarking, misfits_in}
-use Rattle.linked_blocks.proofs.places.mark_inputs.Given as goal
-
-abbrev pub invariant-loop-name : goal.invariant-loop-name
-invariant-loop-name l = IsMarking (misfits_in l.blocks l.holder (take l.name-index l.inputs)) l.fn.marks l.marks

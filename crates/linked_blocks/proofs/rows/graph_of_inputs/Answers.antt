@@ -1,5 +1,0 @@
-use Rattle.linked_blocks.proofs.Bridges.{closed_inputs}
-use Rattle.linked_blocks.proofs.rows.graph_of_inputs.Goals as goal
-
-pub unreachable-requires : goal.unreachable-requires
-unreachable-requires c = closed_inputs c.args.table.now.blocks c.in-Err.field-0.block c.in-Err.field-0.to c.blocks-2.ensures.closed (rw (c.in_ok-rows.ensures, c.blocks-2.ensures.blocks) at c.in-Err.ensures.dangling)

@@ -1,5 +1,0 @@
-use Rattle.linked_blocks.specs.Rows.{AreHeads}
-use Rattle.linked_blocks.proofs.rows.heads.Given as goal
-
-abbrev pub invariant-loop-block : goal.invariant-loop-block
-invariant-loop-block l = AreHeads l.blocks l.heads.items l.block

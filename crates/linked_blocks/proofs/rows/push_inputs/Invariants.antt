@@ -1,6 +1,0 @@
-use Rattle.std.proofs.Common.{◌≡◌, drop, ◌++◌}
-use Rattle.linked_blocks.specs.Rows.{numbers_in}
-use Rattle.linked_blocks.proofs.rows.push_inputs.Given as goal
-
-abbrev pub invariant-loop-input : goal.invariant-loop-input
-invariant-loop-input l = l.fn.row.items ++ numbers_in l.inputs ≡ l.row.items ++ numbers_in (drop l.input-index l.inputs)

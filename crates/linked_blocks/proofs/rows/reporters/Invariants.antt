@@ -1,6 +1,0 @@
-use Rattle.std.proofs.Common.{◌≡◌, take, map}
-use Rattle.linked_blocks.specs.Rows.{is_reporter}
-use Rattle.linked_blocks.proofs.rows.reporters.Given as goal
-
-abbrev pub invariant-loop-block : goal.invariant-loop-block
-invariant-loop-block l = l.reporters.items ≡ map is_reporter (take l.block-index l.blocks)

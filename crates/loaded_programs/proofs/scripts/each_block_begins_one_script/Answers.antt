@@ -1,5 +1,0 @@
-use Rattle.loaded_programs.proofs.ScriptsHeld.{blocks_tell}
-use Rattle.loaded_programs.proofs.scripts.each_block_begins_one_script.Goals as goal
-
-pub returns : goal.returns
-returns c = blocks_tell

@@ -1,5 +1,0 @@
-use Rattle.project_file.proofs.OneTree.{one_script}
-use Rattle.project_file.proofs.laws.a_link_has_one_script.Goals as goal
-
-pub returns : goal.returns
-returns c = one_script

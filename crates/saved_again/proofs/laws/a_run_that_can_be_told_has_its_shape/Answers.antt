@@ -1,5 +1,0 @@
-use Rattle.saved_again.proofs.Runs.{run_read}
-use Rattle.saved_again.proofs.laws.a_run_that_can_be_told_has_its_shape.Goals as goal
-
-pub returns : goal.returns
-returns c = run_read

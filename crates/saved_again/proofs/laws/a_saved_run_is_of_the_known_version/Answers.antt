@@ -1,7 +1,0 @@
-use Rattle.std.proofs.Common.{refl}
-use Rattle.saved_text.specs.Saved.{saved}
-use Rattle.saved_again.proofs.laws.a_saved_run_is_of_the_known_version.Goals as goal
-
-pub returns : goal.returns
-unfolding saved
-returns c s = refl

@@ -1,5 +1,0 @@
-use Rattle.saved_json.proofs.Utf8.{IsUtf8-compact_text}
-use Rattle.saved_json.proofs.laws.a_compact_text_is_utf8.Goals as goal
-
-pub returns : goal.returns
-returns c = IsUtf8-compact_text

@@ -1,5 +1,0 @@
-use Rattle.saved_json.proofs.ReadingBack.{read-compact_text}
-use Rattle.saved_json.proofs.laws.a_compact_text_reads_back.Goals as goal
-
-pub returns : goal.returns
-returns c = read-compact_text

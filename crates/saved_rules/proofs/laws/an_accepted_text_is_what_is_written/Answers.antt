@@ -1,5 +1,0 @@
-use Rattle.saved_rules.proofs.Spelled.{written_as_read}
-use Rattle.saved_rules.proofs.laws.an_accepted_text_is_what_is_written.Goals as goal
-
-pub returns : goal.returns
-returns c b digest bytes t told = written_as_read b digest bytes told.0 t told.2
