@@ -43,3 +43,14 @@ pub fn held_at(args: &Args<'_>, field: &str, here: InstanceId, records: &Records
         None => Place { of: here, index: 0 },
     }
 }
+
+/// The variable or list that a field names; the first own one where there is no such field.
+#[inline]
+pub fn named(args: &Args<'_>, field: &str) -> VarRef
+    ensures { result ≡ variable_at field.now args.now }
+{
+    match args.variable(field) {
+        Some(variable) => variable,
+        None => VarRef::Own(0),
+    }
+}

@@ -1,9 +1,11 @@
 //! The inputs of a block.
 
-ghost use Rattle.std.specs.Prelude.{◌≡◌, IfOk};
+ghost use Rattle.std.specs.Prelude.{◌≡◌, unwrap_or, IfOk};
+ghost use Rattle.scratch_values.specs.Named.{item_named};
+ghost use Rattle.machine_spec.specs.Stores.{from_zero};
 ghost use Rattle.machine_spec.specs.View.{number_at, text_at, truth_at, value_at};
 
-use scratch_number::{Num, of_whole};
+use scratch_number::{Num, is_less, of_whole};
 use scratch_values::{Args, BoundText, Value, to_number, to_text, to_truth};
 use std::alloc::{AllocError, Global};
 
@@ -47,5 +49,28 @@ pub fn text(alloc: Global, args: &Args<'_>, input: &str) -> Result<BoundText, Al
     match args.value(input) {
         Some(value) => to_text(alloc, value),
         None => to_text(alloc, &Value::Number(of_whole(0))),
+    }
+}
+
+/// The value of an input, or what stands for one that is absent.
+#[inline]
+pub fn given<'v>(args: &'v Args<'_>, input: &str, absent: &'v Value) -> &'v Value
+    ensures { result.now ≡ unwrap_or (item_named input.now args.now.values) absent.now }
+{
+    match args.value(input) {
+        Some(value) => value,
+        None => absent,
+    }
+}
+
+/// The larger of 0 and a number; 0 where it is not a number.
+pub fn from_zero(n: Num) -> Num
+    ensures { result ≡ from_zero n }
+{
+    let above = n;
+    if is_less(of_whole(0), above) {
+        n
+    } else {
+        of_whole(0)
     }
 }

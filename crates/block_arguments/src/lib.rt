@@ -4,5 +4,5 @@
 mod fields;
 mod inputs;
 
-pub use fields::{Place, field, held_at};
-pub use inputs::{number, text, truth, value};
+pub use fields::{Place, field, held_at, named};
+pub use inputs::{from_zero, given, number, text, truth, value};

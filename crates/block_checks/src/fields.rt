@@ -11,10 +11,9 @@ ghost use Rattle.block_checks.specs.Rows.{is_left_out};
 ghost use Rattle.block_checks.specs.Stops.{PassesIn, StopsIn, StopsUnfit};
 
 use crate::block_links::BlockLinks;
-use crate::named::named;
 use crate::stop;
 use crate::stop::Stop;
-use block_table::BlockTable;
+use block_table::{BlockTable, named};
 use opcode_table::{Opcode, spec};
 use project_json::Text;
 use project_spec::{At, Block, Code};

@@ -10,10 +10,9 @@ ghost use Rattle.block_checks.specs.Rows.{lacks};
 ghost use Rattle.block_checks.specs.Stops.{PassesIn, StopsIn, StopsMissing};
 
 use crate::block_links::BlockLinks;
-use crate::named::named;
 use crate::stop;
 use crate::stop::Stop;
-use block_table::BlockTable;
+use block_table::{BlockTable, named};
 use opcode_table::{InputSpec, spec};
 use project_spec::{At, Block, Code, Input};
 use std::alloc::Global;

@@ -9,7 +9,6 @@ mod fields;
 mod inputs;
 mod linking;
 mod loose;
-mod named;
 mod places;
 mod roles;
 mod rows;
@@ -17,4 +16,5 @@ mod stop;
 mod testing;
 
 pub use block_links::BlockLinks;
+pub use linking::in_scripts;
 pub use testing::test_blocks;

@@ -24,6 +24,15 @@ fn checked(alloc: Global, table: &BlockTable, graph: &Graph) -> Result<Vec<bool>
     reach(alloc, graph, &heads)
 }
 
+/// Whether each block of a target is in a script: it is a head, or links lead to it from one. The only error is want of
+/// memory.
+pub fn in_scripts(alloc: Global, table: &BlockTable) -> Result<Vec<bool>, AllocError>
+    ensures { IfOk result (λ v. AreChecked table.now.blocks v.items) }
+{
+    let graph = graph_of_links(alloc, table)?;
+    checked(alloc, table, &graph)
+}
+
 /// Ranks the blocks of a target, and finds the checked ones. It is refused by the first block on a cycle of links.
 pub(crate) fn link_target(
     alloc: Global,

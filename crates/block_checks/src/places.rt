@@ -10,11 +10,11 @@ ghost use Rattle.block_checks.specs.Rows.{known, link_in};
 ghost use Rattle.block_checks.specs.Stops.{PassesIn, StopsIn, StopsMisplaced};
 
 use crate::block_links::BlockLinks;
-use crate::roles::{fits_in, has_role};
+use crate::roles::fits_in;
 use crate::rows::{known, link_in};
 use crate::stop;
 use crate::stop::Stop;
-use block_table::BlockTable;
+use block_table::{BlockTable, has_role};
 use opcode_table::{Role, name};
 use project_json::Text;
 use project_spec::{At, Block, Code, Input};

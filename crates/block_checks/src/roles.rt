@@ -1,35 +1,12 @@
 //! Where blocks stand.
 
-ghost use Rattle.std.specs.Prelude.{◌≡◌, ◌&&◌, ◌||◌, bytes_eq};
+ghost use Rattle.std.specs.Prelude.{◌≡◌, ◌&&◌, bytes_eq};
 ghost use Rattle.opcode_table.specs.declared.shape.Role.TheVariants as role;
-ghost use Rattle.project_spec.specs.Linked.{In, is_branch, has_role, is_menu, is_value, is_head, fits, custom_block};
+ghost use Rattle.project_spec.specs.Linked.{In, has_role, is_menu, is_value, fits, custom_block};
 
-use opcode_table::{Role, spec};
+use block_table::{has_role, is_branch};
+use opcode_table::Role;
 use project_spec::{Block, Code};
-
-// Whether an opcode has the role.
-pub(crate) fn has_role(wanted: Role, code: &Code) -> bool
-    ensures { result ≡ has_role wanted code.now }
-{
-    match code {
-        Code::Known(op) => spec(*op).role == wanted,
-        Code::Other(_) => false,
-    }
-}
-
-// Whether the opcode is that of a hat or of a definition.
-fn heads_a_stack(code: &Code) -> bool
-    ensures { result ≡ (has_role role.Hat code.now || has_role role.Definition code.now) }
-{
-    has_role(Role::Hat, code) || has_role(Role::Definition, code)
-}
-
-// Whether the block is a head.
-pub(crate) fn is_head(block: &Block) -> bool
-    ensures { result ≡ is_head block.now }
-{
-    block.top_level && heads_a_stack(&block.code)
-}
 
 // Whether the block is a menu.
 fn is_menu(block: &Block) -> bool
@@ -46,13 +23,6 @@ fn is_value(block: &Block) -> bool
     ensures { result ≡ is_value block.now }
 {
     has_role(Role::Reporter, &block.code) || is_menu(block)
-}
-
-// Whether an input of the name is a branch.
-fn is_branch(name: &str) -> bool
-    ensures { result ≡ is_branch name.now }
-{
-    name.as_bytes().starts_with(b"SUBSTACK")
 }
 
 // Whether an input of the name leads to the prototype of the block.

@@ -5,8 +5,7 @@ ghost use Rattle.std.specs.Option.{option_copied};
 ghost use Rattle.std.specs.List.{Contains};
 ghost use Rattle.block_checks.specs.Rows.{known, listed, link_in, numbers_in, input_row, row, rows, input_rows, IsHeadAt, is_reporter};
 
-use crate::roles::{has_role, is_head};
-use block_table::BlockTable;
+use block_table::{BlockTable, has_role, is_head};
 use link_graph::Graph;
 use opcode_table::Role;
 use project_json::Text;

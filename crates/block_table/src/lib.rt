@@ -6,6 +6,7 @@
 #![tactic(auto)]
 
 mod bounding;
+mod by_name;
 mod field_list;
 mod file_block;
 mod ids;
@@ -14,11 +15,14 @@ mod objects;
 mod primitives;
 mod reading;
 mod refusal;
+mod roles;
 mod salt;
 mod table;
 
+pub use by_name::named;
 pub use machine_spec::BlockId;
 pub use project_spec::{Block, Blocks, Code, Fields, Input, Inputs, Link, Mutation};
 pub use reading::build;
 pub use refusal::BlockRefusal;
+pub use roles::{has_role, is_branch, is_hat, is_head};
 pub use table::{BlockTable, FileTable, read_table};

@@ -26,8 +26,8 @@ fn is_part(resolved: &Resolved, in_input: bool, part: &str) -> bool
     }
 }
 
-// The variable or list that a part of a block names.
-fn ref_in(refs: &[Resolved], in_input: bool, part: &str) -> Option<VarRef>
+/// The variable or list that a part of a block names, by all that its parts name.
+pub fn ref_in(refs: &[Resolved], in_input: bool, part: &str) -> Option<VarRef>
     ensures { result ≡ told.ref_in refs.now in_input part.now }
 {
     match refs

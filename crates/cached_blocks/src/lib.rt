@@ -10,5 +10,7 @@ mod links;
 mod making;
 
 pub use block::{CachedBlock, CachedBlocks, CachedFields, CachedInputs};
+pub use fields::ref_in;
 pub use laws::{a_script_is_told, an_expression_is_told, links_fall};
+pub use links::{first_of, linked};
 pub use making::cache_blocks;

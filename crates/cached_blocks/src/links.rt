@@ -1,6 +1,6 @@
 //! Where the links of a block lead.
 
-ghost use Rattle.std.specs.Prelude.{◌≡◌, true, [], IfOk};
+ghost use Rattle.std.specs.Prelude.{◌≡◌, ℕ, List, true, IfOk};
 ghost use Rattle.std.specs.List.{filter_map};
 ghost use Rattle.project_spec.specs.Linked.{is_branch};
 ghost use Rattle.project_spec.specs.Trees.{branch, branch_by, call_code, target_of_link};
@@ -22,9 +22,9 @@ pub fn linked(link: &Option<Link>) -> Option<BlockId>
     }
 }
 
-// The block with which the branch in an input begins.
-fn first_of(input: &Input) -> Option<BlockId>
-    ensures { result ≡ (branch_by [] input.now).1 }
+/// The block with which the branch in an input begins.
+pub fn first_of(input: &Input) -> Option<BlockId>
+    ensures { (name : List ℕ) → branch_by name input.now ≡ (name, result) }
 {
     match input {
         Input::Reporter(Link::To(id)) => Some(*id),

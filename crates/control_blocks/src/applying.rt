@@ -12,7 +12,8 @@ ghost use Rattle.machine_spec.specs.declared.threads.Control.TheVariants.{Next};
 ghost use Rattle.targets.specs.Live.{IsSameCast};
 ghost use Rattle.thread_frames.specs.Threads.{listed};
 ghost use Rattle.speech_bubbles.specs.Scenes.{scene_in};
-ghost use Rattle.control_blocks.specs.Afresh.{acts_alone, was_afresh};
+ghost use Rattle.control_blocks.specs.Afresh.{acts_alone};
+ghost use Rattle.block_arguments.specs.Afresh.{was_afresh};
 ghost use Rattle.speech_bubbles.specs.Stops.{IsOfBubblesOrMemory};
 
 use crate::{loops, messages, procedures, questions, stopping, waiting};

@@ -9,7 +9,7 @@ ghost use Rattle.machine_spec.specs.declared.threads.Filter.TheVariants.{Broadca
 ghost use Rattle.machine_spec.specs.View.{text_at};
 ghost use Rattle.thread_frames.specs.Threads.{listed};
 ghost use Rattle.machine_spec.specs.Laws.{is_own};
-ghost use Rattle.control_blocks.specs.Afresh.{is_started};
+ghost use Rattle.machine_spec.specs.Keeping.{is_started};
 ghost use Rattle.control_blocks.specs.Same.{IsOnly, KeepsWell};
 
 use block_arguments::text;

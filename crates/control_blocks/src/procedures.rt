@@ -54,16 +54,6 @@ fn params(alloc: Global, args: &Args<'_>, prototype: &Prototype) -> Result<Param
     Ok(params)
 }
 
-// The target of an instance; the first one where no such instance is live.
-fn target_of(targets: &Targets, of: InstanceId) -> TargetId
-    ensures { result ≡ (instance_at of targets.now).of }
-{
-    match targets.get(of) {
-        Some(instance) => instance.of,
-        None => TargetId(0),
-    }
-}
-
 // The procedure of the code is entered, where the instance's target has one; else the call does nothing. The only error is
 // want of memory.
 fn enter(
@@ -114,7 +104,7 @@ pub(crate) fn call(
             Ok(Control::Next)
         }
         _ => {
-            let target = target_of(targets, here);
+            let target = targets.target(here);
             enter(alloc, code, args, target, project, context)
         }
     }

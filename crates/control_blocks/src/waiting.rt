@@ -6,43 +6,18 @@ ghost use Rattle.machine_spec.specs.ControlRows.{wait_row};
 ghost use Rattle.machine_spec.specs.declared.instance.Instance.{Instance};
 ghost use Rattle.machine_spec.specs.declared.threads.Control.TheVariants.{Next, Yield};
 ghost use Rattle.machine_spec.specs.declared.threads.Context.TheVariants.{Fresh};
-ghost use Rattle.machine_spec.specs.Stores.{elapsed, from_zero, less};
+ghost use Rattle.machine_spec.specs.Stores.{elapsed, less};
 ghost use Rattle.machine_spec.specs.View.{number_at, truth_at};
 ghost use Rattle.speech_bubbles.specs.Scenes.{scene_in};
 ghost use Rattle.machine_spec.specs.Laws.{is_own};
 ghost use Rattle.control_blocks.specs.Same.{KeepsWell};
 
-use block_arguments::{number, truth};
+use block_arguments::{from_zero, number, truth};
 use devices::Devices;
 use machine_spec::{Boxed, Context, Control, WaitState};
-use scratch_number::{Num, of_whole, order};
+use scratch_number::is_less;
 use scratch_values::Args;
 use std::alloc::{AllocError, Global};
-use std::cmp::Ordering;
-
-// Whether a number is less than another; what is not a number is neither.
-fn is_less(a: Num, b: Num) -> bool
-    ensures { result ≡ less a b }
-{
-    match order(a, b) {
-        Some(Ordering::Less) => true,
-        Some(Ordering::Equal) => false,
-        Some(Ordering::Greater) => false,
-        None => false,
-    }
-}
-
-// The larger of 0 and a number; 0 where it is not a number.
-fn from_zero(n: Num) -> Num
-    ensures { result ≡ from_zero n }
-{
-    let above = n;
-    if is_less(of_whole(0), above) {
-        n
-    } else {
-        of_whole(0)
-    }
-}
 
 // Whether less time has gone by than the wait lasts.
 fn lasts(devices: &Devices, state: &WaitState) -> bool

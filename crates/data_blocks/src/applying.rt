@@ -10,7 +10,7 @@ ghost use Rattle.machine_spec.specs.declared.threads.Control.TheVariants.{Next};
 ghost use Rattle.target_records.specs.Records.{records_in};
 ghost use Rattle.variables.specs.Held.{HasSameShape};
 ghost use Rattle.data_blocks.specs.Blocks.{parts_of, row};
-ghost use Rattle.data_blocks.specs.Stops.{IsOfWordsOrMemory};
+ghost use Rattle.block_arguments.specs.Stops.{IsOfWordsOrMemory};
 
 use crate::{list_rows, monitor_rows, variable_rows};
 use machine_spec::InstanceId;

@@ -9,7 +9,7 @@ ghost use Rattle.machine_spec.specs.View.{value_at};
 ghost use Rattle.target_records.specs.Records.{records_in};
 ghost use Rattle.variables.specs.Held.{HasSameShape};
 ghost use Rattle.data_blocks.specs.Blocks.{parts_of, row};
-ghost use Rattle.data_blocks.specs.Stops.{IsOfWordsOrMemory};
+ghost use Rattle.block_arguments.specs.Stops.{IsOfWordsOrMemory};
 
 use crate::edits::{deleted_at, inserted_at, replaced_at};
 use crate::places::place;

@@ -4,27 +4,16 @@ ghost use Rattle.std.specs.Prelude.{◌≡◌, codes, OnOk};
 ghost use Rattle.machine_spec.specs.declared.variables.Shown.TheVariants as shown;
 ghost use Rattle.machine_spec.specs.DataRows.{named as named_by, shown_as};
 ghost use Rattle.machine_spec.specs.Monitors.{monitor_set};
-ghost use Rattle.machine_spec.specs.Stores.{instance_at};
 ghost use Rattle.target_records.specs.Records.{records_in};
 ghost use Rattle.variables.specs.Held.{HasSameShape};
 
 use block_arguments::held_at;
-use machine_spec::{InstanceId, Shown, TargetId};
+use machine_spec::{InstanceId, Shown};
 use scratch_values::Args;
 use std::alloc::AllocError;
 use target_records::Records;
 use targets::Targets;
 use variables::Variables;
-
-// The target of an instance; the first one where no such instance is live.
-fn target_of(targets: &Targets, of: InstanceId) -> TargetId
-    ensures { result ≡ (instance_at of targets.now).of }
-{
-    match targets.get(of) {
-        Some(instance) => instance.of,
-        None => TargetId(0),
-    }
-}
 
 // `show variable VARIABLE`, and `hide variable VARIABLE`.
 pub(crate) fn show_variable(
@@ -39,7 +28,7 @@ pub(crate) fn show_variable(
     ensures held { HasSameShape variables.old variables.new }
 {
     let variable = held_at(args, "VARIABLE", here, records);
-    let what = Shown::Variable(target_of(targets, variable.of), variable.index);
+    let what = Shown::Variable(targets.target(variable.of), variable.index);
     variables.show(records, what, visible)
 }
 
@@ -56,6 +45,6 @@ pub(crate) fn show_list(
     ensures held { HasSameShape variables.old variables.new }
 {
     let list = held_at(args, "LIST", here, records);
-    let what = Shown::List(target_of(targets, list.of), list.index);
+    let what = Shown::List(targets.target(list.of), list.index);
     variables.show(records, what, visible)
 }

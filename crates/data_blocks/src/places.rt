@@ -5,7 +5,7 @@ ghost use Rattle.machine_spec.specs.Outcome.{Goes, StopIs};
 ghost use Rattle.machine_spec.specs.Random.{indexed};
 ghost use Rattle.machine_spec.specs.View.{value_at};
 ghost use Rattle.machine_spec.specs.Words.{seen_words};
-ghost use Rattle.data_blocks.specs.Stops.{IsOfWordsOrMemory};
+ghost use Rattle.block_arguments.specs.Stops.{IsOfWordsOrMemory};
 
 use scratch_number::of_whole;
 use scratch_values::{Args, Index, Value, list_index};

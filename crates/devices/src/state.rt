@@ -19,13 +19,10 @@ use machine_spec::{BubbleTimer, BubbleTimers, InstanceId, Key, Keys, Question, Q
 use project_json::Text;
 use scratch_number::Num;
 use scratch_values::BoundText;
-use script_words::CounterFull;
+use script_words::{CounterFull, LAST_NUMBER};
 use std::alloc::{AllocError, Global};
 use std::marker::Model;
 use std::mem;
-
-// The last value of a counter, which it gives to nobody.
-const LAST: u64 = (1 << 62) - 1;
 
 /// The devices of a run. Contracts see the record of the reference machine.
 pub struct Devices {
@@ -336,7 +333,7 @@ impl Devices {
         ensures err { OnErr result (self.new ≡ self.old) }
     {
         let usage = self.usage;
-        if usage == LAST {
+        if usage == LAST_NUMBER {
             return Err(CounterFull);
         }
         self.usage = usage + 1;

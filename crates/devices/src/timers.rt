@@ -2,14 +2,13 @@
 
 ghost use Rattle.std.specs.Prelude.{◌≡◌, ◌==◌, ◌<◌, ◌++◌, ◌∷◌, [], ℕ, filter, not, length, IfSome, OnOk, OnErr, Some};
 ghost use Rattle.std.specs.Option.{option_map};
-ghost use Rattle.machine_spec.specs.Stores.{less as is_less, seconds as seconds_of};
+ghost use Rattle.machine_spec.specs.Stores.{less, seconds as seconds_of};
 ghost use Rattle.machine_spec.specs.Frame.{is_due as due, next_due, sooner as first_of};
 ghost use Rattle.devices.specs.Lists.{found, without_found};
 
 use machine_spec::{BubbleTimer, BubbleTimers, InstanceId};
-use scratch_number::{Num, of_millionths, order};
+use scratch_number::{Num, is_less, of_millionths};
 use std::alloc::AllocError;
-use std::cmp::Ordering;
 
 /// Milliseconds as seconds.
 pub fn seconds(ms: u64) -> Num
@@ -18,30 +17,18 @@ pub fn seconds(ms: u64) -> Num
     of_millionths(i128::from(ms) * 1000)
 }
 
-// Whether a number is less than another; what is not a number is neither.
-fn is_below(a: Num, b: Num) -> bool
-    ensures { result ≡ is_less a b }
-{
-    match order(a, b) {
-        Some(Ordering::Less) => true,
-        Some(Ordering::Equal) => false,
-        Some(Ordering::Greater) => false,
-        None => false,
-    }
-}
-
 // Whether a timer's time is not after the clock.
 fn is_due(clock: u64, timer: &BubbleTimer) -> bool
     ensures { result ≡ due clock timer.now }
 {
-    !is_below(seconds(clock), timer.due)
+    !is_less(seconds(clock), timer.due)
 }
 
 // Whether a timer ends before another.
 fn is_before(timer: &BubbleTimer, other: &BubbleTimer) -> bool
-    ensures { result ≡ is_less timer.now.due other.now.due }
+    ensures { result ≡ less timer.now.due other.now.due }
 {
-    is_below(timer.due, other.due)
+    is_less(timer.due, other.due)
 }
 
 // Adds a timer behind the others.

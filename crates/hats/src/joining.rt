@@ -11,11 +11,8 @@ ghost use Rattle.thread_frames.specs.Threads.{frames, is_of};
 ghost use Rattle.hats.specs.Started.{crowd_of, new_of, entered, is_ignored as is_ignored_by, started};
 
 use machine_spec::{BlockId, InstanceId, Serial, Serials, TargetId, Which};
-use script_words::{CounterKind, Stop};
+use script_words::{CounterKind, LAST_NUMBER, Stop};
 use thread_frames::{PushStop, Threads};
-
-// Where the counter of threads stands when no number is left.
-const LAST_NUMBER: u64 = (1 << 62) - 1;
 
 // A hat that is started: its instance and the target of that, its block, the block below it, and whether its thread is
 // restarted.

@@ -2,5 +2,4 @@ pub mod FirstLine
 pub mod Forward
 pub mod Kept
 pub mod LineWords
-pub mod OneKey
 pub mod Parsed

@@ -1,4 +1,4 @@
--- Numbers of words kept in a range; private functions alone cite it.
+-- Words that are whole numbers, and numbers kept in a range.
 use Rattle.std.specs.Prelude.{ℕ, ◌==◌, ◌&&◌, ◌||◌, not, min, ℤ, pos, negsuc, neg_ℤ, suc, List, [], ◌∷◌, length, Bool, false}
 use Rattle.std.specs.Str.{all_ascii_digits}
 

@@ -2,7 +2,6 @@
 #![tactic(auto)]
 
 mod cuts;
-mod keys;
 mod numbers;
 mod ranges;
 mod reading;
@@ -10,4 +9,5 @@ mod script;
 mod words;
 
 pub use machine_spec::{Budget, Key, Line, LineRefusal};
+pub use numbers::is_whole;
 pub use script::Script;

@@ -11,8 +11,8 @@ fn all_digits(word: &[u8]) -> bool
     word.iter().all(|byte| byte.is_ascii_digit())
 }
 
-// Digits, without a leading zero unless it is 0.
-fn is_whole(word: &[u8]) -> bool
+/// Whether a word is a whole number: digits, without a leading zero unless it is 0.
+pub fn is_whole(word: &[u8]) -> bool
     ensures { result ≡ is_whole word.now }
 {
     match word {

@@ -5,9 +5,8 @@ ghost use Rattle.machine_spec.specs.ScriptText.{Good, by_words, one_word, two_wo
 ghost use Rattle.machine_spec.specs.declared.lines.Line.TheVariants as line;
 ghost use Rattle.input_script.specs.Reader.{Refuses};
 
-use crate::keys::key;
 use crate::ranges::{click, frame, mouse};
-use machine_spec::{Line, LineRefusal};
+use machine_spec::{Key, Line, LineRefusal};
 use scratch_values::BoundText;
 use std::alloc::Global;
 
@@ -109,7 +108,7 @@ pub(crate) fn key_down(number: u64, rest: &str) -> Result<Line, LineRefusal>
     ensures ok { IfOk result (λ l. key_line line.KeyDown number (key_of_rest rest.now) ≡ Good l) }
     ensures refused { Refuses result (Some (key_line line.KeyDown number (key_of_rest rest.now))) }
 {
-    match key(rest) {
+    match Key::named(rest) {
         Some(key) => Ok(Line::KeyDown(key)),
         None => unknown(number),
     }
@@ -120,7 +119,7 @@ pub(crate) fn key_up(number: u64, rest: &str) -> Result<Line, LineRefusal>
     ensures ok { IfOk result (λ l. key_line line.KeyUp number (key_of_rest rest.now) ≡ Good l) }
     ensures refused { Refuses result (Some (key_line line.KeyUp number (key_of_rest rest.now))) }
 {
-    match key(rest) {
+    match Key::named(rest) {
         Some(key) => Ok(Line::KeyUp(key)),
         None => unknown(number),
     }

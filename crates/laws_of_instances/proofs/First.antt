@@ -8,7 +8,7 @@ use Rattle.machine_spec.specs.Program.{Program, no_target, record_at, stage_numb
 use Rattle.machine_spec.specs.Stores.{less, is_on_stage}
 use Rattle.laws_of_threads.specs.Lists.{Each}
 use Rattle.laws_of_threads.specs.Playable.{IsTarget, IsPlayable}
-use Rattle.laws_of_words.specs.Words.{words_after}
+use Rattle.machine_spec.specs.Words.{words_after}
 use Rattle.laws_of_words.proofs.Sourced.{first_of_seed}
 use Rattle.laws_of_instances.specs.Instances.{IsInstance, IsLegalCast}
 use Rattle.laws_of_instances.proofs.Casts.{IsCast, legal_of}

@@ -11,7 +11,7 @@ use Rattle.laws_of_threads.specs.GoodLines.{IsGoodLine}
 use Rattle.laws_of_threads.specs.Playable.{IsPlayable}
 use Rattle.laws_of_threads.specs.Scripts.{IsProgram}
 use Rattle.laws_of_threads.specs.Worlds.{IsLegalWorld}
-use Rattle.laws_of_words.specs.Words.{words_after}
+use Rattle.machine_spec.specs.Words.{words_after}
 use Rattle.laws_of_instances.specs.Instances.{IsLegalCast}
 
 -- the first world of a run has legal instances

@@ -3,9 +3,9 @@ use Rattle.std.proofs.Common.{◌≡◌, ℕ, zero, suc, Bool, true, false, not,
 use Rattle.std.proofs.lemmas.Slice.Eq.{bytes_eq-Decides}
 use Rattle.hex.specs.Hex.{encode_lower}
 use Rattle.serde_json.specs.Data.{Data}
-use Rattle.saved_text.specs.Saved.{saved_text}
+use Rattle.saved_spec.specs.Saved.{saved_text}
 use Rattle.laws_of_threads.specs.Lists.{Each}
-use Rattle.saved_spec.specs.Basis.{Basis}
+use Rattle.project_spec.specs.Basis.{Basis}
 use Rattle.saved_spec.specs.Kept.{thread}
 use Rattle.saved_spec.specs.Levels.{bad_thread, thread_is_well}
 use Rattle.saved_spec.specs.Rules as rules

@@ -17,16 +17,16 @@ use Rattle.machine_spec.specs.Frame.{is_edge_hat}
 use Rattle.machine_spec.specs.Program.{Records, Head, hat_block, scripts_at, record_at, no_target}
 use Rattle.machine_spec.specs.Script.{op_of}
 use Rattle.machine_spec.specs.Stopping.{most_clones}
-use Rattle.machine_spec.specs.Stores.{is_on_stage, record_of}
+use Rattle.machine_spec.specs.Stores.{is_on_stage, record_of, is_original}
 use Rattle.laws_of_threads.specs.Instances.{Hosts, Inhabited}
 use Rattle.laws_of_threads.specs.Lists.{Each, Member, Differ, Rise}
 use Rattle.laws_of_threads.specs.Playable.{IsBetween, IsAsTheStage}
 use Rattle.laws_of_threads.specs.Threads.{Holds}
 use Rattle.laws_of_threads.proofs.Numbers.{clash, differ_filter, each_map}
 use Rattle.laws_of_instances.specs.Instances.{IsClone, IsOriginal, IsEdgeHat, IsInstance, IsLegalCast}
-use Rattle.laws_of_saving.specs.Worlds.{world_told}
-use Rattle.saved_spec.specs.Basis.{Basis, records_of, is_edge, is_edge_head}
-use Rattle.saved_spec.specs.Rules.{is_between, is_original, is_sprite, is_clone, is_next, effect_is_between, is_as_the_stage, has_short_texts, differ}
+use Rattle.saved_spec.specs.Worlds.{world_told}
+use Rattle.project_spec.specs.Basis.{Basis, records_of, is_edge, is_edge_head}
+use Rattle.saved_spec.specs.Rules.{is_between, is_sprite, is_clone, is_next, effect_is_between, is_as_the_stage, has_short_texts, differ}
 use Rattle.saved_spec.specs.RunShapes.{Told}
 use Rattle.laws_of_loading.proofs.Shaped.{IsShaped, IsShapedStanding}
 use Rattle.laws_of_loading.proofs.Accepting.{Rules}

@@ -24,7 +24,7 @@ use Rattle.machine_spec.specs.Threads.{Params}
 use Rattle.laws_of_threads.specs.Lists.{Each}
 use Rattle.laws_of_threads.specs.Positions.{KeptWell}
 use Rattle.saved_spec.specs.Legal.{AllStand, StandsIn}
-use Rattle.saved_spec.specs.Threads.{is_from_zero, is_above_zero, is_some_thread, loops_with, may_keep, same_texts, has_names, is_choice, marker_fits, items_fit}
+use Rattle.saved_spec.specs.ThreadRules.{is_from_zero, is_above_zero, is_some_thread, loops_with, may_keep, same_texts, has_names, is_choice, marker_fits, items_fit}
 use Rattle.laws_of_loading.proofs.Tests.{both, up_to}
 
 -- Times

@@ -13,9 +13,10 @@ use Rattle.machine_spec.specs.ScriptText.{key_of_rest}
 use Rattle.laws_of_threads.specs.GoodLines.{IsNamedKey}
 use Rattle.laws_of_threads.specs.Lists.{Each}
 use Rattle.laws_of_devices.specs.Devices.{IsDue, IsTimer, KeysDiffer, AreDevices, IsLegalDesk}
-use Rattle.laws_of_words.specs.Words.{words_after, IsOfSeed}
-use Rattle.laws_of_saving.specs.Worlds.{world_told}
-use Rattle.saved_spec.specs.Basis.{Basis, records_of}
+use Rattle.machine_spec.specs.Words.{words_after}
+use Rattle.laws_of_words.specs.Words.{IsOfSeed}
+use Rattle.saved_spec.specs.Worlds.{world_told}
+use Rattle.project_spec.specs.Basis.{Basis, records_of}
 use Rattle.saved_spec.specs.Rules.{is_key_name, texts_differ, is_due_time, is_next}
 use Rattle.saved_spec.specs.RunShapes.{Told}
 use Rattle.laws_of_loading.proofs.Shaped.{IsShaped}

@@ -4,8 +4,8 @@ use Rattle.laws_of_threads.specs.Lists.{Each}
 use Rattle.laws_of_threads.proofs.Numbers.{each_map}
 use Rattle.laws_of_turns.specs.Within.{IsInstanceWithin, IsStoreWithin}
 use Rattle.laws_of_worlds.specs.Runs.{IsLegalRun}
-use Rattle.laws_of_saving.specs.Worlds.{world_told}
-use Rattle.saved_spec.specs.Basis.{Basis}
+use Rattle.saved_spec.specs.Worlds.{world_told}
+use Rattle.project_spec.specs.Basis.{Basis}
 use Rattle.saved_spec.specs.Refusals.{IsAccepted}
 use Rattle.saved_spec.specs.RunShapes.{Told}
 use Rattle.laws_of_loading.proofs.Shaped.{IsShaped, IsShapedStanding}

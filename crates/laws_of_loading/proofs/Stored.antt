@@ -11,7 +11,7 @@ use Rattle.machine_spec.specs.declared.variables.Shown.TheVariants.{Variable, Li
 use Rattle.machine_spec.specs.declared.variables.Store.{Store}
 use Rattle.laws_of_threads.specs.Lists.{Each, Member, Differ, Rise, RiseAbove}
 use Rattle.laws_of_variables.specs.Variables.{IsStoreOf, IsThere, IsLegalStores}
-use Rattle.saved_spec.specs.Basis.{Basis}
+use Rattle.project_spec.specs.Basis.{Basis}
 use Rattle.saved_spec.specs.InstanceShapes.{Standing}
 use Rattle.saved_spec.specs.Rules.{differ, has_values, is_shown}
 use Rattle.saved_spec.specs.RunShapes.{Told, store_among, stores_in_order}

@@ -28,15 +28,15 @@ use Rattle.laws_of_threads.specs.Threads.{Holds, IsThread}
 use Rattle.laws_of_threads.specs.Worlds.{IsSound, IsLegalThread, IsLegalWorld}
 use Rattle.laws_of_threads.proofs.Numbers.{equal_true}
 use Rattle.laws_of_turns.specs.Within.{IsItemWithin, IsContextWithin, IsTaskWithin}
-use Rattle.laws_of_saving.specs.Worlds.{items_told, warp_told, task_told, world_told}
-use Rattle.saved_text.specs.Tasks.{is_marker}
-use Rattle.saved_spec.specs.Basis.{Basis, script_under}
+use Rattle.saved_spec.specs.Worlds.{items_told, warp_told, task_told, world_told}
+use Rattle.saved_spec.specs.Tasks.{is_marker}
+use Rattle.project_spec.specs.Basis.{Basis, script_under}
 use Rattle.saved_spec.specs.Kept.{SavedLevel, SavedThread, kept_of, level_of, levels_of, thread_told}
 use Rattle.saved_spec.specs.Legal.{AllStand, StandsIn}
 use Rattle.saved_spec.specs.Levels.{items_of, thread_is_well}
 use Rattle.saved_spec.specs.Rules.{target_of, is_named, is_of_hat, serials_kept, differ}
 use Rattle.saved_spec.specs.RunShapes.{Told}
-use Rattle.saved_spec.specs.Threads.{is_asked, is_spoken, items_fit, may_keep, marker_fits, promises_fit, stands_well, status_fits}
+use Rattle.saved_spec.specs.ThreadRules.{is_asked, is_spoken, items_fit, may_keep, marker_fits, promises_fit, stands_well, status_fits}
 use Rattle.saved_spec.proofs.Standing.{reads}
 use Rattle.laws_of_loading.proofs.Shaped.{IsShaped, IsLevelWithin, IsThreadWithin}
 use Rattle.laws_of_loading.proofs.Accepting.{Rules}

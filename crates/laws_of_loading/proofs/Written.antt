@@ -3,9 +3,9 @@ use Rattle.std.proofs.Common.{◌≡◌, ℕ, true, List, [], ◌∷◌, map, re
 use Rattle.hex.specs.Hex.{encode_lower}
 use Rattle.machine_spec.specs.Tasks.{Task}
 use Rattle.laws_of_threads.specs.Lists.{Each}
-use Rattle.saved_text.specs.Saved.{Snapshot, snapshot, saved, saved_text}
-use Rattle.saved_text.specs.Tasks.{task}
-use Rattle.saved_spec.specs.Basis.{Basis}
+use Rattle.saved_spec.specs.Saved.{Snapshot, snapshot, saved, saved_text}
+use Rattle.saved_spec.specs.Tasks.{task}
+use Rattle.project_spec.specs.Basis.{Basis}
 use Rattle.saved_spec.specs.Kept.{SavedThread, thread, thread_told}
 use Rattle.saved_spec.specs.Legal.{told}
 use Rattle.saved_spec.specs.Levels.{thread_is_well}
@@ -13,7 +13,7 @@ use Rattle.saved_spec.specs.Refusals.{IsAccepted}
 use Rattle.saved_spec.specs.RunShapes.{Told}
 use Rattle.saved_spec.proofs.Spelled.{written_as_read}
 use Rattle.saved_spec.proofs.Telling.{same_threads}
-use Rattle.laws_of_saving.specs.Worlds.{task_told, world_told}
+use Rattle.saved_spec.specs.Worlds.{task_told, world_told}
 use Rattle.laws_of_loading.proofs.Accepting.{Keeps, all_well, holds}
 use Rattle.laws_of_loading.proofs.Threads.{told_is}
 

@@ -1,12 +1,12 @@
 -- What the saved runs that are accepted tell, as statements that public functions with empty bodies prove.
 use Rattle.std.specs.Prelude.{◌≡◌, ℕ, List}
-use Rattle.saved_text.specs.Saved.{snapshot, saved_text}
-use Rattle.saved_text.specs.Tasks.{task}
-use Rattle.saved_spec.specs.Basis.{Basis}
+use Rattle.saved_spec.specs.Saved.{snapshot, saved_text}
+use Rattle.saved_spec.specs.Tasks.{task}
+use Rattle.project_spec.specs.Basis.{Basis}
 use Rattle.saved_spec.specs.Refusals.{IsAccepted}
 use Rattle.saved_spec.specs.RunShapes.{Told}
 use Rattle.laws_of_worlds.specs.Runs.{IsLegalRun}
-use Rattle.laws_of_saving.specs.Worlds.{world_told}
+use Rattle.saved_spec.specs.Worlds.{world_told}
 
 -- the world that an accepted saved run tells is legal, also where no run wrote it
 abbrev pub AcceptedIsLegal : Type 0

@@ -5,7 +5,7 @@ use Rattle.std.specs.List.{All}
 use Rattle.json.proofs.Printed.Utf8.{are_ascii, IsUtf8-are_ascii}
 use Rattle.serde_json.specs.Data.{Data, null, boolean, string, array, object, Items, no_items, item, Members, no_members, member, depth, items_depth, members_depth}
 use Rattle.laws_of_json.specs.Plain.{IsPlain, ItemsArePlain, MembersArePlain, HasUtf8, ItemsHaveUtf8, MembersHaveUtf8, IsBefore}
-use Rattle.saved_text.specs.Rows as rows
+use Rattle.saved_spec.specs.Rows as rows
 
 -- plain, with texts in UTF-8, nesting at most n deep
 pub record Fits (n : ℕ) (d : Data) : Type 0 where

@@ -10,10 +10,10 @@ use Rattle.machine_spec.specs.declared.bubble.Bubble.{Bubble}
 use Rattle.machine_spec.specs.declared.instance.Instance.{Instance}
 use Rattle.machine_spec.specs.declared.instance.Style.{Style}
 use Rattle.machine_spec.specs.declared.instance.Style.TheVariants.{AllAround, LeftRight, DontRotate}
-use Rattle.saved_text.specs.Instances as instances
-use Rattle.saved_text.specs.Ranges.{HasInstance, IsValue}
-use Rattle.saved_text.specs.Rows as rows
-use Rattle.saved_text.specs.Values as values
+use Rattle.saved_spec.specs.Instances as instances
+use Rattle.saved_spec.specs.Ranges.{HasInstance, IsValue}
+use Rattle.saved_spec.specs.Rows as rows
+use Rattle.saved_spec.specs.Values as values
 use Rattle.saved_spec.specs.InstanceShapes as shapes
 use Rattle.saved_spec.specs.Shapes.{each, num, value}
 use Rattle.laws_of_reading.proofs.Parts.{num_read, value_read, each_same, each_from_same}

@@ -12,9 +12,9 @@ use Rattle.scratch_number.specs.declared.number.Num.TheVariants.{Fixed, Inf, Neg
 use Rattle.scratch_values.specs.declared.value.Value.{Value}
 use Rattle.scratch_values.specs.declared.value.Value.TheVariants.{Number, Truth, Text}
 use Rattle.json_shapes.specs.Shapes.{Reader}
-use Rattle.saved_text.specs.Ranges.{IsSigned, IsValue}
-use Rattle.saved_text.specs.Rows as rows
-use Rattle.saved_text.specs.Values as values
+use Rattle.saved_spec.specs.Ranges.{IsSigned, IsValue}
+use Rattle.saved_spec.specs.Rows as rows
+use Rattle.saved_spec.specs.Values as values
 use Rattle.saved_spec.specs.Shapes as shapes
 
 pub if_so : {A : Type 0} (c : Bool) (x y : A) → c ≡ true → (if c then x else y) ≡ x

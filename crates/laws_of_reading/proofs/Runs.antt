@@ -15,11 +15,11 @@ use Rattle.machine_spec.specs.Line.{key_name}
 use Rattle.machine_spec.specs.ScriptText.{key_of_rest}
 use Rattle.machine_spec.specs.Stores.{Devices, store_at}
 use Rattle.machine_spec.specs.Tasks.{Task}
-use Rattle.saved_text.specs.Devices as devices
-use Rattle.saved_text.specs.Instances as instances
-use Rattle.saved_text.specs.Monitors as monitors
-use Rattle.saved_text.specs.Ranges.{IsStanding, IsTimer, AreDevices}
-use Rattle.saved_text.specs.Saved.{Snapshot, saved}
+use Rattle.saved_spec.specs.Devices as devices
+use Rattle.saved_spec.specs.Instances as instances
+use Rattle.saved_spec.specs.Monitors as monitors
+use Rattle.saved_spec.specs.Ranges.{IsStanding, IsTimer, AreDevices}
+use Rattle.saved_spec.specs.Saved.{Snapshot, saved}
 use Rattle.saved_spec.specs.InstanceShapes as instance_shapes
 use Rattle.saved_spec.specs.Kept as kept
 use Rattle.saved_spec.specs.Legal.{told}

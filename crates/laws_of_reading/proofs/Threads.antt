@@ -17,11 +17,11 @@ use Rattle.machine_spec.specs.declared.threads.Status.TheVariants.{Running, Yiel
 use Rattle.machine_spec.specs.Pending.{Item, Do, Held, Returned, Branch, Again, Back}
 use Rattle.machine_spec.specs.Tasks.{Task}
 use Rattle.machine_spec.specs.Threads.{is_done, most_turns}
-use Rattle.saved_text.specs.Contexts as contexts
-use Rattle.saved_text.specs.Ranges.{IsWhole, IsBlock, IsWait, IsGlide, IsContext, IsParam, AreParams, IsMarker, IsFirst, AreItems, IsTask}
-use Rattle.saved_text.specs.Rows as rows
-use Rattle.saved_text.specs.Tasks.{is_marker}
-use Rattle.saved_text.specs.Threads.{block, thread_of, status_name}
+use Rattle.saved_spec.specs.Contexts as contexts
+use Rattle.saved_spec.specs.Ranges.{IsWhole, IsBlock, IsWait, IsGlide, IsContext, IsParam, AreParams, IsMarker, IsFirst, AreItems, IsTask}
+use Rattle.saved_spec.specs.Rows as rows
+use Rattle.saved_spec.specs.Tasks.{is_marker}
+use Rattle.saved_spec.specs.Threads.{block, thread_of, status_name}
 use Rattle.saved_spec.specs.Kept as kept
 use Rattle.saved_spec.specs.Shapes.{if_some, whole}
 use Rattle.saved_spec.specs.ThreadShapes as shapes

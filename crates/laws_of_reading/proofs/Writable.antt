@@ -32,15 +32,15 @@ use Rattle.machine_spec.specs.declared.variables.Store.{Store}
 use Rattle.machine_spec.specs.Line.{key_name}
 use Rattle.machine_spec.specs.Stores.{Devices, store_at}
 use Rattle.machine_spec.specs.Tasks.{Task}
-use Rattle.saved_text.specs.Contexts as contexts
-use Rattle.saved_text.specs.Devices as devices
-use Rattle.saved_text.specs.Instances as instances
-use Rattle.saved_text.specs.Monitors as monitors
-use Rattle.saved_text.specs.Ranges.{IsWhole, IsSigned, IsValue, IsBubble, HasInstance, IsStanding, IsShown, IsKey, IsQuestion, IsTimer, AreDevices, IsBlock, IsParam, IsRun, IsTask}
-use Rattle.saved_text.specs.Rows as rows
-use Rattle.saved_text.specs.Saved.{Snapshot, saved, next}
-use Rattle.saved_text.specs.Threads.{block, thread_of, status_name}
-use Rattle.saved_text.specs.Values as values
+use Rattle.saved_spec.specs.Contexts as contexts
+use Rattle.saved_spec.specs.Devices as devices
+use Rattle.saved_spec.specs.Instances as instances
+use Rattle.saved_spec.specs.Monitors as monitors
+use Rattle.saved_spec.specs.Ranges.{IsWhole, IsSigned, IsValue, IsBubble, HasInstance, IsStanding, IsShown, IsKey, IsQuestion, IsTimer, AreDevices, IsBlock, IsParam, IsRun, IsTask}
+use Rattle.saved_spec.specs.Rows as rows
+use Rattle.saved_spec.specs.Saved.{Snapshot, saved, next}
+use Rattle.saved_spec.specs.Threads.{block, thread_of, status_name}
+use Rattle.saved_spec.specs.Values as values
 use Rattle.saved_spec.specs.Kept as kept
 use Rattle.saved_spec.specs.Legal.{told}
 use Rattle.saved_spec.specs.RunShapes.{is_digit, is_digest}

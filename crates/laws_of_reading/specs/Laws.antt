@@ -1,8 +1,8 @@
 -- Laws of runs that can be told, as statements that public functions with empty bodies prove.
 use Rattle.std.specs.Prelude.{◌≡◌, None, Ok, []}
 use Rattle.machine_spec.specs.Tasks.{Task}
-use Rattle.saved_text.specs.Saved.{Snapshot, saved, saved_text}
-use Rattle.saved_text.specs.Tasks.{task}
+use Rattle.saved_spec.specs.Saved.{Snapshot, saved, saved_text}
+use Rattle.saved_spec.specs.Tasks.{task}
 use Rattle.saved_spec.specs.Kept.{thread}
 use Rattle.saved_spec.specs.Legal.{told}
 use Rattle.saved_spec.specs.Refusals.{Reads, other_version}

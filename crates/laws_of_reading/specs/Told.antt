@@ -12,8 +12,8 @@ use Rattle.machine_spec.specs.ScriptText.{key_of_rest}
 use Rattle.machine_spec.specs.Stores.{store_at}
 use Rattle.machine_spec.specs.Tasks.{Task}
 use Rattle.machine_spec.specs.Threads.{is_done, most_turns}
-use Rattle.saved_text.specs.Ranges.{IsRun, IsTask}
-use Rattle.saved_text.specs.Saved.{Snapshot}
+use Rattle.saved_spec.specs.Ranges.{IsRun, IsTask}
+use Rattle.saved_spec.specs.Saved.{Snapshot}
 use Rattle.saved_spec.specs.InstanceShapes.{rises}
 use Rattle.saved_spec.specs.RunShapes.{is_digest, stores_in_order}
 

@@ -1,11 +1,11 @@
 -- The parts of a script, and what outputs may differ in that are told alike: the numbers of refused lines and redraw requests.
-use Rattle.std.specs.Prelude.{◌≡◌, ℕ, ◌+◌, List, [], ◌∷◌, false}
+use Rattle.std.specs.Prelude.{◌≡◌, ℕ, ◌+◌, List, [], ◌∷◌}
 use Rattle.machine_spec.specs.declared.lines.LineRefusal.{LineRefusal}
 use Rattle.machine_spec.specs.declared.lines.LineRefusal.TheVariants.{NotUtf8, UnknownLine, BadNumber, OutOfRange, ClockBack, NoMemory}
 use Rattle.machine_spec.specs.Output.{Ending, Whole, BadLine, Limited, Output, ends}
 use Rattle.machine_spec.specs.ScriptText.{reading_of, clock_after}
 use Rattle.machine_spec.specs.Tasks.{Task}
-use Rattle.machine_spec.specs.World.{World}
+use Rattle.machine_spec.specs.World.{World, as_saved}
 
 -- a text is empty or ends by a line feed
 abbrev pub EndsALine : List ℕ → Type 0
@@ -39,7 +39,7 @@ moved_on k o = ends o.writes (ending_moved k o.ending)
 
 -- worlds that differ in nothing but their redraw requests
 abbrev pub AlikeButRedraw : World Task → World Task → Type 0
-AlikeButRedraw w v = record w { redraw = false } ≡ record v { redraw = false }
+AlikeButRedraw w v = as_saved w ≡ as_saved v
 
 -- endings that differ in nothing but the redraw request of the last world
 abbrev pub EndAlike : Ending → Ending → Type 0

@@ -7,9 +7,9 @@ use Rattle.machine_spec.specs.Tasks.{Task}
 use Rattle.machine_spec.specs.World.{World}
 use Rattle.laws_of_json.proofs.ReadingBack.{read-compact_text}
 use Rattle.laws_of_json.proofs.Utf8.{IsUtf8-compact_text}
-use Rattle.saved_text.specs.Saved.{Snapshot, snapshot, saved, saved_text}
-use Rattle.saved_text.specs.Tasks.{task}
-use Rattle.saved_spec.specs.Basis.{Basis}
+use Rattle.saved_spec.specs.Saved.{Snapshot, snapshot, saved, saved_text}
+use Rattle.saved_spec.specs.Tasks.{task}
+use Rattle.project_spec.specs.Basis.{Basis}
 use Rattle.saved_spec.specs.Kept.{thread}
 use Rattle.saved_spec.specs.Legal.{told}
 use Rattle.saved_spec.specs.Levels.{bad_thread}

@@ -4,7 +4,7 @@ use Rattle.machine_spec.specs.declared.instance.Instance.{Instance}
 use Rattle.laws_of_threads.specs.Instances.{Hosts}
 use Rattle.laws_of_threads.specs.Lists.{Member, Differ}
 use Rattle.laws_of_threads.proofs.Numbers.{equal, equal_true}
-use Rattle.saved_spec.specs.Rules.{is_original}
+use Rattle.machine_spec.specs.Stores.{is_original}
 use Rattle.laws_of_saving.proofs.Tests.{both_true, none_true}
 
 -- originals of a number

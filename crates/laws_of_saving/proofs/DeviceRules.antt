@@ -21,9 +21,9 @@ use Rattle.laws_of_threads.specs.Promises.{Serials, IsLive}
 use Rattle.laws_of_threads.proofs.Faces.{found, number_hosts}
 use Rattle.laws_of_devices.specs.Devices.{IsDue, IsTimer, KeysDiffer}
 use Rattle.laws_of_variables.specs.Variables.{IsThere}
-use Rattle.saved_text.specs.Ranges.{IsRun, IsTask, IsQuestion}
-use Rattle.saved_text.specs.Saved.{snapshot}
-use Rattle.saved_spec.specs.Basis.{Basis, records_of}
+use Rattle.saved_spec.specs.Ranges.{IsRun, IsTask, IsQuestion}
+use Rattle.saved_spec.specs.Saved.{snapshot}
+use Rattle.project_spec.specs.Basis.{Basis, records_of}
 use Rattle.saved_spec.specs.Legal.{told}
 use Rattle.saved_spec.specs.RunShapes.{Told}
 use Rattle.saved_spec.specs.Rules as rules

@@ -6,7 +6,7 @@ use Rattle.laws_of_programs.specs.Scripts.{IsInOrder}
 use Rattle.laws_of_programs.proofs.NumbersHeld.{program_within}
 use Rattle.laws_of_programs.proofs.ScriptsHeld.{scripts_legal, blocks_tell, blocks_in_order}
 use Rattle.laws_of_programs.proofs.TargetsHeld.{program_playable}
-use Rattle.saved_spec.specs.Basis.{Basis}
+use Rattle.project_spec.specs.Basis.{Basis}
 use Rattle.laws_of_saving.specs.Good.{IsGood}
 
 pub file_good : (bytes : List ℕ) (f : File) (b : Basis) → length bytes < 2 ^ 32 → file.IsAccepted bytes f → file.IsProgram f b.program → b.blocks ≡ map length (blocks_in f) → IsGood b

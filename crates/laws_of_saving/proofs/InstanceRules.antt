@@ -11,7 +11,7 @@ use Rattle.machine_spec.specs.declared.records.TargetRecord.{TargetRecord}
 use Rattle.machine_spec.specs.DataRows.{most_items}
 use Rattle.machine_spec.specs.Effects.{effect_place}
 use Rattle.machine_spec.specs.Program.{Head, scripts_at, no_target}
-use Rattle.machine_spec.specs.Stores.{is_on_stage}
+use Rattle.machine_spec.specs.Stores.{is_original, is_on_stage, store_at}
 use Rattle.machine_spec.specs.Tasks.{Task}
 use Rattle.machine_spec.specs.World.{World}
 use Rattle.laws_of_threads.specs.Instances.{Hosts}
@@ -21,12 +21,11 @@ use Rattle.laws_of_threads.specs.Threads.{Holds}
 use Rattle.laws_of_threads.proofs.Numbers.{equal_true}
 use Rattle.laws_of_instances.specs.Instances.{IsInstance, IsOriginal, IsClone, IsEdgeHat}
 use Rattle.laws_of_variables.specs.Variables.{IsStoreOf}
-use Rattle.saved_text.specs.Saved.{snapshot}
-use Rattle.saved_spec.specs.Basis.{Basis, records_of, is_edge, is_edge_head}
+use Rattle.saved_spec.specs.Saved.{snapshot}
+use Rattle.project_spec.specs.Basis.{Basis, records_of, is_edge, is_edge_head}
 use Rattle.saved_spec.specs.Legal.{told}
 use Rattle.saved_spec.specs.RunShapes.{Told}
 use Rattle.saved_spec.specs.Rules as rules
-use Rattle.machine_spec.specs.Stores.{store_at}
 use Rattle.laws_of_worlds.specs.Runs.{IsLegalRun}
 use Rattle.laws_of_saving.proofs.Counting.{one_original, clones_few}
 use Rattle.laws_of_saving.proofs.Tests.{both_true, left_true, right_true, not_true, unless_true, less_true, least_true, same_true, each_both, all_true, all_below_true, differ_true, some_true}
@@ -50,10 +49,10 @@ sprite_by (t ∷ ts) zero l e = not_true t.is_stage e
 sprite_by (t ∷ ts) (suc k) l e = sprite_by ts k (omega arith) e
 
 member_true : (b : Basis) (next : ℕ) (i : Instance) → i.number < next → IsOriginal (records_of b) i ⊎ IsClone (records_of b) i
-    → (rules.is_original i && nat_lt i.of (length (records_of b).targets) || (rules.is_sprite b i.of && nat_le (length (records_of b).targets) i.number && nat_lt i.number next)) ≡ true
+    → (is_original i && nat_lt i.of (length (records_of b).targets) || (rules.is_sprite b i.of && nat_le (length (records_of b).targets) i.number && nat_lt i.number next)) ≡ true
 member_true b next i given (inl h) = left_true _ _ (both_true _ _ (equal_true i.number i.of h.0) (less_true _ _ h.1))
 member_true b next i given (inr h) =
-    right_true (rules.is_original i && nat_lt i.of (length (records_of b).targets)) _ (both_true _ _ (both_true _ _ (sprite_by (records_of b).targets i.of h.0 h.1) (least_true _ _ h.2)) (less_true _ _ given))
+    right_true (is_original i && nat_lt i.of (length (records_of b).targets)) _ (both_true _ _ (both_true _ _ (sprite_by (records_of b).targets i.of h.0 h.1) (least_true _ _ h.2)) (less_true _ _ given))
 
 hosts_each : (is js : List Instance) → ((n k : ℕ) → Hosts n k is → Hosts n k js) → Each (λ i. Hosts i.number i.of js) is
 hosts_each [] js f = tt
@@ -80,7 +79,7 @@ module _ (b : Basis) (seed : ℕ) (digest : List ℕ) (w : World Task) (h : IsLe
   stage_first = some_true (λ i. is_on_stage i (records_of b)) (slice_get w.targets 0) h.instances.stage
 
   pub originals_there : rules.originals_are_there b tells ≡ true
-  originals_there = all_below_true (λ k. length (filter (λ i. i.of == k && rules.is_original i) w.targets) == 1) 0 (length (records_of b).targets)
+  originals_there = all_below_true (λ k. length (filter (λ i. i.of == k && is_original i) w.targets) == 1) 0 (length (records_of b).targets)
       (λ k f l. same_true _ _ (one_original k w.targets h.threads.sound.inhabited.differ (h.threads.sound.inhabited.originals k (omega arith))))
 
   pub clones_sprites : rules.clones_are_sprites b tells ≡ true

@@ -3,9 +3,9 @@ use Rattle.std.proofs.Common.{◌≡◌, ℕ, true, List, None, option_map, ap}
 use Rattle.machine_spec.specs.Tasks.{Task}
 use Rattle.machine_spec.specs.World.{World}
 use Rattle.laws_of_threads.specs.Lists.{Each}
-use Rattle.saved_text.specs.Ranges.{IsRun, IsTask}
-use Rattle.saved_text.specs.Saved.{snapshot}
-use Rattle.saved_spec.specs.Basis.{Basis}
+use Rattle.saved_spec.specs.Ranges.{IsRun, IsTask}
+use Rattle.saved_spec.specs.Saved.{snapshot}
+use Rattle.project_spec.specs.Basis.{Basis}
 use Rattle.saved_spec.specs.Legal.{told}
 use Rattle.saved_spec.specs.Rules.{rules, broken}
 use Rattle.laws_of_worlds.specs.Runs.{IsLegalRun}

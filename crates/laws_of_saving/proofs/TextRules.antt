@@ -13,9 +13,9 @@ use Rattle.machine_spec.specs.Tasks.{Task}
 use Rattle.machine_spec.specs.World.{World}
 use Rattle.laws_of_threads.specs.Lists.{Each, Member}
 use Rattle.laws_of_instances.specs.Instances.{IsInstance}
-use Rattle.saved_text.specs.Ranges.{IsValue, IsStanding, IsRun, IsTask}
-use Rattle.saved_text.specs.Saved.{snapshot}
-use Rattle.saved_spec.specs.Basis.{Basis}
+use Rattle.saved_spec.specs.Ranges.{IsValue, IsStanding, IsRun, IsTask}
+use Rattle.saved_spec.specs.Saved.{snapshot}
+use Rattle.project_spec.specs.Basis.{Basis}
 use Rattle.saved_spec.specs.Legal.{told}
 use Rattle.saved_spec.specs.Rules.{is_short, has_short_texts, instances_say_little}
 use Rattle.laws_of_worlds.specs.Runs.{IsLegalRun}

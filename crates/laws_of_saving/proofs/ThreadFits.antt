@@ -28,7 +28,7 @@ use Rattle.laws_of_threads.specs.Promises.{askers, speakers}
 use Rattle.laws_of_threads.specs.Threads.{is_asked, is_spoken}
 use Rattle.laws_of_threads.proofs.Numbers.{equal}
 use Rattle.saved_spec.specs.Legal.{AllStand, StandsIn}
-use Rattle.saved_spec.specs.Threads as rules
+use Rattle.saved_spec.specs.ThreadRules as rules
 use Rattle.laws_of_saving.proofs.Tests.{both_true, not_true, unless_true, least_true, text_true}
 
 -- What a block keeps

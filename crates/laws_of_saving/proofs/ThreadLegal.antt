@@ -15,17 +15,17 @@ use Rattle.laws_of_threads.specs.Threads.{Holds}
 use Rattle.laws_of_threads.specs.Worlds as threads
 use Rattle.laws_of_threads.proofs.Faces.{hosts_one, found}
 use Rattle.laws_of_threads.proofs.Numbers.{equal, equal_true}
-use Rattle.saved_text.specs.Saved.{snapshot}
-use Rattle.saved_spec.specs.Basis.{Basis, script_under}
+use Rattle.saved_spec.specs.Saved.{snapshot}
+use Rattle.project_spec.specs.Basis.{Basis, script_under}
 use Rattle.saved_spec.specs.Kept.{levels_of, thread_told}
 use Rattle.saved_spec.specs.Legal.{IsLegalThread, StandsIn, told}
 use Rattle.saved_spec.specs.Levels.{items_of, left_of, thread_is_well}
 use Rattle.saved_spec.specs.RunShapes.{Told}
-use Rattle.saved_spec.specs.Threads as rules
+use Rattle.saved_spec.specs.ThreadRules as rules
 use Rattle.saved_spec.proofs.Placed as saved
 use Rattle.laws_of_worlds.specs.Runs.{IsLegalRun}
 use Rattle.laws_of_saving.specs.Good.{IsGood}
-use Rattle.laws_of_saving.specs.Worlds.{items_told, warp_told, task_told}
+use Rattle.saved_spec.specs.Worlds.{items_told, warp_told, task_told}
 use Rattle.laws_of_saving.proofs.Tests.{both_true}
 use Rattle.laws_of_saving.proofs.ThreadFits.{items_fit, stands_in, status_fits, promises_fit}
 use Rattle.laws_of_saving.proofs.ThreadPlaces.{IsOf, head_is, agreed}

@@ -15,7 +15,7 @@ use Rattle.laws_of_threads.specs.Statements.{EachIn, EachUnder, EachInOne}
 use Rattle.laws_of_threads.specs.Threads.{Holds}
 use Rattle.laws_of_threads.proofs.Programs.{held_head}
 use Rattle.laws_of_programs.specs.Scripts.{Begun, BegunUnder, BegunIn, IsInBlocks}
-use Rattle.saved_spec.specs.Basis.{Basis}
+use Rattle.project_spec.specs.Basis.{Basis}
 use Rattle.saved_spec.specs.Legal.{AllStand, BlocksAgree}
 use Rattle.laws_of_saving.specs.Good.{IsGood}
 

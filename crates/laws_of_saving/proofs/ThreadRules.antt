@@ -24,10 +24,10 @@ use Rattle.laws_of_threads.specs.Worlds as threads
 use Rattle.laws_of_threads.proofs.Depths.{depths, levels_are}
 use Rattle.laws_of_threads.proofs.Faces.{found}
 use Rattle.laws_of_threads.proofs.Numbers.{equal_true, each_map}
-use Rattle.saved_text.specs.Ranges.{IsRun, IsTask, AreItems, IsMarker, IsParam, IsValue}
-use Rattle.saved_text.specs.Saved.{snapshot}
-use Rattle.saved_text.specs.Tasks.{is_marker}
-use Rattle.saved_spec.specs.Basis.{Basis, blocks_of}
+use Rattle.saved_spec.specs.Ranges.{IsRun, IsTask, AreItems, IsMarker, IsParam, IsValue}
+use Rattle.saved_spec.specs.Saved.{snapshot}
+use Rattle.saved_spec.specs.Tasks.{is_marker}
+use Rattle.project_spec.specs.Basis.{Basis, blocks_of}
 use Rattle.saved_spec.specs.Kept.{SavedLevel, SavedThread, kept_of, level_of, levels_of, thread_told}
 use Rattle.saved_spec.specs.Legal.{AllStand, StandsIn, told}
 use Rattle.saved_spec.specs.Levels.{thread_is_well, bad_thread}

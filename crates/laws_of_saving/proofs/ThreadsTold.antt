@@ -2,18 +2,18 @@
 use Rattle.std.proofs.Common.{◌≡◌, ℕ, false, List, [], ◌∷◌, map, None, refl, sym, ap, ◌∙◌}
 use Rattle.machine_spec.specs.Places.{Places}
 use Rattle.machine_spec.specs.Tasks.{Task}
-use Rattle.machine_spec.specs.Words.{Words}
+use Rattle.machine_spec.specs.Words.{Words, words_after}
 use Rattle.laws_of_threads.specs.Lists.{Each}
 use Rattle.laws_of_threads.specs.Worlds as threads
 use Rattle.laws_of_threads.proofs.Numbers.{each_map}
-use Rattle.laws_of_words.specs.Words.{words_after, IsOfSeed}
-use Rattle.saved_text.specs.Saved.{snapshot}
-use Rattle.saved_spec.specs.Basis.{Basis}
+use Rattle.laws_of_words.specs.Words.{IsOfSeed}
+use Rattle.saved_spec.specs.Saved.{snapshot}
+use Rattle.project_spec.specs.Basis.{Basis}
 use Rattle.saved_spec.specs.Kept.{thread_told}
 use Rattle.saved_spec.specs.Legal.{told}
 use Rattle.saved_spec.specs.RunShapes.{Told}
 use Rattle.laws_of_saving.specs.Laws.{WorldIsTold}
-use Rattle.laws_of_saving.specs.Worlds.{task_told}
+use Rattle.saved_spec.specs.Worlds.{task_told}
 use Rattle.laws_of_saving.proofs.ThreadLegal.{is_told}
 
 all_told : (b : Basis) (t : Told) (ts : List Task) → Each (λ x. task_told b t (thread_told x) ≡ x) ts → map (task_told b t) (map thread_told ts) ≡ ts

@@ -13,9 +13,9 @@ use Rattle.laws_of_threads.specs.Worlds.{IsLegalThread}
 use Rattle.laws_of_threads.proofs.Numbers.{each_map}
 use Rattle.laws_of_instances.specs.Instances.{IsInstance}
 use Rattle.laws_of_turns.specs.Within.{IsContextWithin, IsItemWithin, IsTaskWithin}
-use Rattle.saved_text.specs.Ranges.{IsRun, IsTask}
-use Rattle.saved_text.specs.Saved.{snapshot}
-use Rattle.saved_spec.specs.Basis.{Basis}
+use Rattle.saved_spec.specs.Ranges.{IsRun, IsTask}
+use Rattle.saved_spec.specs.Saved.{snapshot}
+use Rattle.project_spec.specs.Basis.{Basis}
 use Rattle.saved_spec.specs.InstanceShapes.{rises_above, rises}
 use Rattle.laws_of_reading.specs.Told.{HasFewTurns, KeepsFewTurns, IsTold, CanBeTold}
 use Rattle.laws_of_worlds.specs.Runs.{IsLegalRun}

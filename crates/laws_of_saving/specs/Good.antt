@@ -3,7 +3,7 @@ use Rattle.std.specs.Prelude.{◌≡◌, ℕ, ◌<◌, List, length}
 use Rattle.std.specs.List.{All}
 use Rattle.laws_of_worlds.specs.Runs.{IsGoodProgram}
 use Rattle.laws_of_programs.specs.Scripts.{BlocksTell, IsInOrder}
-use Rattle.saved_spec.specs.Basis.{Basis}
+use Rattle.project_spec.specs.Basis.{Basis}
 
 -- a program whose runs can be saved
 pub record IsGood (b : Basis) : Type 0 where

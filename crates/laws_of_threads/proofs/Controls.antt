@@ -20,7 +20,8 @@ use Rattle.machine_spec.specs.Tasks.{status_after}
 use Rattle.machine_spec.specs.Step.{position, entered_some, after_start}
 use Rattle.laws_of_threads.specs.Lists.{Each}
 use Rattle.laws_of_threads.specs.Scripts.{IsThen}
-use Rattle.laws_of_threads.specs.Positions.{KeptWell, FirstKeptWell, Sits, is_promise, is_started, KeptFits, BranchFits, StartFits, ControlFits, Begins}
+use Rattle.laws_of_threads.specs.Positions.{KeptWell, FirstKeptWell, Sits, is_promise, KeptFits, BranchFits, StartFits, ControlFits, Begins}
+use Rattle.machine_spec.specs.Keeping.{is_started}
 
 pub ends_itself : (t : Script) → EndOf t t
 ends_itself End = refl

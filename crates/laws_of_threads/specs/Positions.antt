@@ -9,6 +9,7 @@ use Rattle.machine_spec.specs.declared.threads.Context.TheVariants.{Fresh, Wait,
 use Rattle.machine_spec.specs.declared.threads.Control.{Control}
 use Rattle.machine_spec.specs.declared.threads.Control.TheVariants.{Next, Branch, Yield, YieldTick, Promise, Call, Start}
 use Rattle.machine_spec.specs.Pending.{Item, Held, Position}
+use Rattle.machine_spec.specs.Keeping.{is_started}
 use Rattle.machine_spec.specs.Stores.{from_zero}
 use Rattle.machine_spec.specs.Tasks.{status_after}
 use Rattle.machine_spec.specs.Legal.{Keeps, KeepsAgain, Fits, Legal, StatusFits}
@@ -37,11 +38,6 @@ abbrev pub is_promise : Context → Bool
 is_promise Asked = true
 is_promise Spoken = true
 is_promise _ = false
-
--- it waits for threads that it started
-abbrev pub is_started : Context → Bool
-is_started (Started serials) = true
-is_started _ = false
 
 -- what a statement can bring to its next execution
 abbrev pub Brings : (clock : ℕ) → Kind → Context → Type 0

@@ -13,7 +13,7 @@ use Rattle.script_words.proofs.WordsLemmas.{answers-advance}
 use Rattle.script_words.specs.declared.stops.CounterKind.{CounterKind}
 use Rattle.script_words.specs.declared.stops.CounterKind.TheVariants as counter
 use Rattle.machine_spec.specs.Outcome.{Outcome, Spent, IfGoes, then_do, with_number, last_number}
-use Rattle.machine_spec.specs.Words.{Words, Drawn, undrawn, made_of, draw}
+use Rattle.machine_spec.specs.Words.{Words, Drawn, undrawn, made_of, draw, words_after}
 use Rattle.opcode_table.specs.declared.grouping.Group.{Group}
 use Rattle.opcode_table.specs.declared.grouping.Group.TheVariants.{Motion, Looks, Data, Control}
 use Rattle.opcode_table.specs.declared.opcode.Opcode.{Opcode}
@@ -55,7 +55,7 @@ use Rattle.machine_spec.specs.View.{View, Row, value_at, text_at, number_at, fie
 use Rattle.machine_spec.specs.World.{World}
 use Rattle.laws_of_threads.proofs.RowFits.{goes_then, goes_any, goes_weaker}
 use Rattle.laws_of_threads.proofs.Numbers.{equal_true, clash}
-use Rattle.laws_of_words.specs.Words.{words_after, IsOfSeed}
+use Rattle.laws_of_words.specs.Words.{IsOfSeed}
 
 -- One word
 

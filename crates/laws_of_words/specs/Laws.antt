@@ -1,8 +1,8 @@
 -- Laws of the random words of a run, as statements that public functions with empty bodies prove.
 use Rattle.std.specs.Prelude.{◌≡◌, ℕ, ◌<◌, ◌^◌}
 use Rattle.rand_core.specs.Stream.{next_u32}
-use Rattle.machine_spec.specs.Words.{Words}
-use Rattle.laws_of_words.specs.Words.{words_after, IsOfSeed}
+use Rattle.machine_spec.specs.Words.{Words, words_after}
+use Rattle.laws_of_words.specs.Words.{IsOfSeed}
 
 -- before the first is drawn the words are those of the seed
 abbrev pub FirstAreOfSeed : Type 0

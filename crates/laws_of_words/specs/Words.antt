@@ -4,10 +4,6 @@ use Rattle.script_words.specs.Words.{answers, seeded, without}
 use Rattle.machine_spec.specs.Outcome.{last_number}
 use Rattle.machine_spec.specs.Words.{Words}
 
--- the random words of a seed, behind those that were drawn
-abbrev pub words_after : (seed drawn : ℕ) → Words
-words_after seed drawn = record { stream = without drawn (answers (seeded seed)); drawn = drawn }
-
 pub record IsOfSeed (seed : ℕ) (w : Words) : Type 0 where
   pub stream : w.stream ≡ without w.drawn (answers (seeded seed))
   pub counted : w.drawn ≤ last_number

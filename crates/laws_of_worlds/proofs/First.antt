@@ -3,8 +3,7 @@ use Rattle.std.proofs.Common.{ℕ, length, sym, subst, arith}
 use Rattle.std.specs.Prelude.{◌≤◌}
 use Rattle.machine_spec.specs.First.{first_world}
 use Rattle.machine_spec.specs.Program.{Program}
-use Rattle.machine_spec.specs.Words.{Words}
-use Rattle.laws_of_words.specs.Words.{words_after}
+use Rattle.machine_spec.specs.Words.{Words, words_after}
 use Rattle.laws_of_threads.specs.Playable.{IsPlayable}
 use Rattle.laws_of_threads.proofs.First as threads
 use Rattle.laws_of_instances.proofs.First as instances

@@ -10,11 +10,10 @@ use Rattle.machine_spec.specs.declared.instance.Instance.{Instance}
 use Rattle.machine_spec.specs.Looks.{at_layer, layer}
 use Rattle.machine_spec.specs.Stores.{instance_at, no_instance}
 use Rattle.targets.specs.Layers.{layer_to}
-use Rattle.targets.specs.Live.{IsLive, IsSameCast, numbers, target_of}
+use Rattle.targets.specs.Live.{IsLive, IsSameCast, numbers, target_of, HasOneEach}
 use Rattle.targets.specs.declared.layers.Place.{Place}
 use Rattle.targets.proofs.Cast.{instance_at_is, live_is_placed}
 use Rattle.targets.proofs.Places.{position_is}
-use Rattle.looks_blocks.specs.Live.{HasOneEach}
 
 module _ {X : Type 0} (p : X → Bool) where
   none_of : (b : Bool) (x : X) (n : ℕ) (o : Option X) → cond b 1 0 + n ≡ 0 → (n ≡ 0 → o ≡ None) → cond b (Some x) o ≡ None

@@ -6,7 +6,7 @@ use Rattle.machine_spec.specs.declared.threads.Context.TheVariants.{Fresh}
 use Rattle.machine_spec.specs.declared.threads.Control.{Control}
 use Rattle.machine_spec.specs.Keeping.{control_fits}
 use Rattle.machine_spec.specs.Laws.{is_own}
-use Rattle.looks_blocks.specs.Afresh.{was_afresh}
+use Rattle.block_arguments.specs.Afresh.{was_afresh}
 use Rattle.looks_blocks.specs.Controls.{is_own_or_start}
 
 -- what is kept fits the control of a block of this kind; behind hats that are started nothing is kept, and nothing was

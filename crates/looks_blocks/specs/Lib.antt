@@ -1,8 +1,6 @@
-pub mod Afresh
 pub mod Blocks
 pub mod Choices
 pub mod Controls
 pub mod Costumes
 pub mod Keeps
-pub mod Live
 pub mod Stops

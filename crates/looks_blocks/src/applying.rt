@@ -11,13 +11,12 @@ ghost use Rattle.machine_spec.specs.Stores.{instance_at};
 ghost use Rattle.machine_spec.specs.declared.threads.Context.TheVariants.{Fresh, Spoken};
 ghost use Rattle.machine_spec.specs.declared.threads.Control.TheVariants.{Next, Promise};
 ghost use Rattle.target_records.specs.Records.{records_in};
-ghost use Rattle.targets.specs.Live.{IsLive, target_of};
+ghost use Rattle.targets.specs.Live.{IsLive, target_of, HasOneEach};
 ghost use Rattle.thread_frames.specs.Threads.{listed};
-ghost use Rattle.looks_blocks.specs.Afresh.{was_afresh};
+ghost use Rattle.block_arguments.specs.Afresh.{was_afresh};
 ghost use Rattle.looks_blocks.specs.Blocks.{parts_of};
 ghost use Rattle.looks_blocks.specs.Controls.{is_own_or_start};
 ghost use Rattle.looks_blocks.specs.Costumes.{HasCostumes};
-ghost use Rattle.looks_blocks.specs.Live.{HasOneEach};
 ghost use Rattle.looks_blocks.specs.Stops.{IsOfCountersOrMemory};
 
 use crate::{backdrops, bubbles, costumes, effects, layers, sizes};

@@ -24,8 +24,8 @@ ghost use Rattle.looks_blocks.specs.Stops.{IsOfCountersOrMemory};
 
 use crate::costumes::next_costume;
 use crate::dress::{asked_for, present_name};
-use crate::own::given;
 use crate::picking::Pick;
+use block_arguments::given;
 use machine_spec::{Boxed, Context, Control, Filter, InstanceId};
 use project_json::Text;
 use scratch_number::of_whole;

@@ -7,7 +7,7 @@ ghost use Rattle.scratch_number.specs.Arithmetic.{add as sum};
 ghost use Rattle.machine_spec.specs.Looks.{goes_on, shown_bubble, spoken, timed_bubble};
 ghost use Rattle.machine_spec.specs.Outcome.{Goes, StopIs};
 ghost use Rattle.machine_spec.specs.Parts.{bubble_updated};
-ghost use Rattle.machine_spec.specs.Stores.{from_zero, less, seconds};
+ghost use Rattle.machine_spec.specs.Stores.{from_zero, seconds};
 ghost use Rattle.machine_spec.specs.Texts as texts;
 ghost use Rattle.machine_spec.specs.View.{number_at, value_at};
 ghost use Rattle.machine_spec.specs.Words.{Words};
@@ -17,16 +17,15 @@ ghost use Rattle.targets.specs.Live.{IsSameCast};
 ghost use Rattle.looks_blocks.specs.Blocks.{leaves, parts};
 
 use crate::bubble_texts::bubble_text;
-use crate::own::{bubble_usage, given, is_visible};
-use block_arguments::number;
+use crate::own::bubble_usage;
+use block_arguments::{from_zero, given, number};
 use devices::{BubbleTimer, Devices, seconds};
 use machine_spec::{BubbleText, InstanceId, Say, Serial};
-use scratch_number::{Num, add, of_whole, order};
+use scratch_number::{Num, add, of_whole};
 use scratch_values::{Args, Value};
 use script_words::Stop;
 use speech_bubbles::update_bubble;
 use std::alloc::{AllocError, Global};
-use std::cmp::Ordering;
 use targets::Targets;
 
 // What a bubble shows of the message. The only error is want of memory.
@@ -71,32 +70,8 @@ pub(crate) fn say(
     ensures cast { IsSameCast targets.old targets.new }
 {
     match speak(alloc, args, kind, here, targets, devices) {
-        Ok(()) => Ok(is_visible(here, targets)),
+        Ok(()) => Ok(targets.is_visible(here)),
         Err(stop) => Err(stop),
-    }
-}
-
-// Whether a number is less than another; what is not a number is neither.
-fn is_less(a: Num, b: Num) -> bool
-    ensures { result ≡ less a b }
-{
-    match order(a, b) {
-        Some(Ordering::Less) => true,
-        Some(Ordering::Equal) => false,
-        Some(Ordering::Greater) => false,
-        None => false,
-    }
-}
-
-// The larger of 0 and a number; 0 where it is not a number.
-fn from_zero(n: Num) -> Num
-    ensures { result ≡ from_zero n }
-{
-    let above = n;
-    if is_less(of_whole(0), above) {
-        n
-    } else {
-        of_whole(0)
     }
 }
 
@@ -124,7 +99,7 @@ fn time(
         usage: bubble_usage(here, targets),
     };
     devices.speak_until(timer)?;
-    Ok(is_visible(here, targets))
+    Ok(targets.is_visible(here))
 }
 
 // `say MESSAGE for SECS seconds` and `think MESSAGE for SECS seconds`: it waits for the end of the bubble's timer. Tells

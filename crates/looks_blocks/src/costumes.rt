@@ -14,8 +14,8 @@ ghost use Rattle.looks_blocks.specs.Costumes.{HasCostumes};
 ghost use Rattle.looks_blocks.specs.Stops.{IsOfCountersOrMemory};
 
 use crate::dress::{asked_for, next};
-use crate::own::given;
 use crate::picking::Pick;
+use block_arguments::given;
 use machine_spec::InstanceId;
 use scratch_number::of_whole;
 use scratch_values::{Args, Value};

@@ -1,6 +1,6 @@
 //! The costumes of an instance.
 
-ghost use Rattle.std.specs.Prelude.{◌≡◌, ◌<◌, ◌+◌, ◌%◌, [], option_map, slice_index_or, IfErr, IfOk};
+ghost use Rattle.std.specs.Prelude.{◌≡◌, ◌<◌, ◌+◌, ◌%◌, option_map, IfErr, IfOk};
 ghost use Rattle.machine_spec.specs.Costume.{costume_index};
 ghost use Rattle.machine_spec.specs.Looks.{next_costume, switched_to, with_costume};
 ghost use Rattle.machine_spec.specs.Outcome.{Goes, StopIs};
@@ -10,7 +10,8 @@ ghost use Rattle.machine_spec.specs.Stores.{instance_at};
 ghost use Rattle.machine_spec.specs.Words.{seen_words};
 ghost use Rattle.target_records.specs.Records.{records_in};
 ghost use Rattle.looks_blocks.specs.Choices.{place_in};
-ghost use Rattle.looks_blocks.specs.Costumes.{HasCostumes, IsDressed};
+ghost use Rattle.looks_blocks.specs.Costumes.{HasCostumes};
+ghost use Rattle.target_records.specs.Costumes.{IsDressed};
 ghost use Rattle.looks_blocks.specs.Stops.{IsOfCountersOrMemory};
 
 use crate::choices::choice_of;
@@ -19,7 +20,7 @@ use machine_spec::{InstanceId, TargetId};
 use scratch_values::{BoundText, Value};
 use script_words::{Counted, Rng, Stop};
 use target_records::Records;
-use targets::Targets;
+use targets::{Targets, costume_of};
 
 // The names of the costumes of a target.
 fn costumes(records: &Records, target: TargetId) -> &[BoundText]
@@ -32,51 +33,18 @@ fn costumes(records: &Records, target: TargetId) -> &[BoundText]
     records.target(target).costumes.as_slice()
 }
 
-// The target of an instance; the first one where none is live.
-fn target(of: InstanceId, targets: &Targets) -> TargetId
-    ensures { result ≡ (instance_at of targets.now).of }
-{
-    match targets.get(of) {
-        Some(instance) => instance.of,
-        None => TargetId(0),
-    }
-}
-
 // The present costume of an instance, from 0.
 fn costume(of: InstanceId, targets: &Targets) -> u32
     ensures { result ≡ (instance_at of targets.now).costume }
 {
-    match targets.get(of) {
-        Some(instance) => instance.costume,
-        None => 0,
-    }
-}
-
-// The name at a place; empty where there is none.
-fn name_at(names: &[BoundText], place: u32) -> &str
-    ensures { result.now ≡ slice_index_or names.now place [] }
-{
-    match names.get(place as usize) {
-        Some(name) => name.as_str(),
-        None => "",
-    }
-}
-
-// The name of a costume of a target; empty where there is none.
-fn costume_name(records: &Records, target: TargetId, costume: u32) -> &str
-    ensures { result.now ≡ slice_index_or (record_at target (records_in records.now)).costumes costume [] }
-{
-    if target.0 >= records.targets() {
-        return "";
-    }
-    name_at(records.target(target).costumes.as_slice(), costume)
+    costume_of(targets.get(of))
 }
 
 // The name of the present costume of an instance.
 pub(crate) fn present_name<'r>(of: InstanceId, records: &'r Records, targets: &Targets) -> &'r str
     ensures { result.now ≡ machine.costume_name (records_in records.now) (instance_at of targets.now) }
 {
-    costume_name(records, target(of, targets), costume(of, targets))
+    records.costume_name(targets.target(of), costume(of, targets))
 }
 
 // The costume that a value picks for an instance, by the rule of costumes or that of backdrops.
@@ -93,7 +61,7 @@ pub(crate) fn asked_for<R: Rng + Drop>(
     ensures stop { StopIs result (switched_to is_backdrop value.now (records_in records.now) (instance_at of targets.now) (seen_words R.stream words.old)) }
     ensures kind { IfErr result IsOfCountersOrMemory }
 {
-    let names = costumes(records, target(of, targets));
+    let names = costumes(records, targets.target(of));
     let now = costume(of, targets);
     let choice = choice_of(is_backdrop, names, now, value);
     pick_for(choice, names.len() as u32, now, words)
@@ -115,6 +83,6 @@ pub(crate) fn next(of: InstanceId, records: &Records, targets: &Targets) -> Pick
     requires { HasCostumes (records_in records.now) (instance_at of targets.now) }
     ensures { with_costume (place_in result) (instance_at of targets.now) ≡ next_costume (records_in records.now) (instance_at of targets.now) }
 {
-    let names = costumes(records, target(of, targets));
+    let names = costumes(records, targets.target(of));
     behind(costume(of, targets), names.len() as u32)
 }

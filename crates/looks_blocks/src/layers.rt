@@ -11,9 +11,8 @@ ghost use Rattle.machine_spec.specs.View.{field_at, number_at};
 ghost use Rattle.machine_spec.specs.Words.{Words};
 ghost use Rattle.target_records.specs.Records.{records_in};
 ghost use Rattle.targets.specs.Layers.{layer_to};
-ghost use Rattle.targets.specs.Live.{IsLive, target_of};
+ghost use Rattle.targets.specs.Live.{IsLive, target_of, HasOneEach};
 ghost use Rattle.looks_blocks.specs.Blocks.{parts};
-ghost use Rattle.looks_blocks.specs.Live.{HasOneEach};
 
 use block_arguments::{field, number};
 use machine_spec::InstanceId;

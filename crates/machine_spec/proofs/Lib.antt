@@ -5,3 +5,4 @@ pub mod Moves
 pub mod Passes
 pub mod Executions
 pub mod WorkedRows
+pub mod OneKey

@@ -14,6 +14,11 @@ abbrev pub is_called : Context → Bool
 is_called Called = true
 is_called _ = false
 
+-- it waits for threads that it started
+abbrev pub is_started : Context → Bool
+is_started (Started serials) = true
+is_started _ = false
+
 -- no fewer than 0 turns are left
 abbrev pub is_left : Count → Bool
 is_left (Whole (pos n)) = true

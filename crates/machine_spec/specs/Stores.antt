@@ -77,6 +77,10 @@ on_instance n f is = first_changed (λ i. i.number == n) f is
 abbrev pub record_of : Instance → Records → TargetRecord
 record_of i records = record_at i.of records
 
+-- an original has the place of its target as its number, and a clone has another one
+abbrev pub is_original : Instance → Bool
+is_original i = i.number == i.of
+
 abbrev pub is_on_stage : Instance → Records → Bool
 is_on_stage i records = (record_of i records).is_stage
 

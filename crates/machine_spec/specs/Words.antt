@@ -4,12 +4,17 @@ use Rattle.rand_core.specs.Stream.{Stream, next_u32}
 use Rattle.script_words.specs.declared.counting.Counted.{Counted}
 use Rattle.script_words.specs.declared.stops.CounterKind.TheVariants as counter
 use Rattle.script_words.specs.Counting.{source_of, drawn_of}
+use Rattle.script_words.specs.Words.{answers, seeded, without}
 use Rattle.machine_spec.specs.Outcome.{Outcome, Goes, with_number}
 
 -- the words that are left, and how many were drawn before
 pub record Words : Type 0 where
   pub stream : Stream
   pub drawn : ℕ
+
+-- the random words of a seed, behind those that were drawn
+abbrev pub words_after : (seed drawn : ℕ) → Words
+words_after seed drawn = record { stream = without drawn (answers (seeded seed)); drawn = drawn }
 
 -- what was made of words, and the words after it
 pub record Drawn (A : Type 0) : Type 0 where

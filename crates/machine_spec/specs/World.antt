@@ -1,5 +1,5 @@
 -- The world of a run, whatever a thread is: a task for the machine, a stack of levels for the code.
-use Rattle.std.specs.Prelude.{ℕ, List, Bool}
+use Rattle.std.specs.Prelude.{ℕ, List, Bool, false}
 use Rattle.machine_spec.specs.Words.{Words}
 use Rattle.machine_spec.specs.Stores.{Instance, Variables, Devices}
 use Rattle.machine_spec.specs.Places.{Places, shown_by}
@@ -29,3 +29,7 @@ seen_world f w = record {
   devices = w.devices;
   threads = shown_by f w.threads;
 }
+
+-- a world but for what a saved run does not tell of it: a redraw request, which lasts no longer than a frame
+abbrev pub as_saved : {T : Type 0} → World T → World T
+as_saved w = record w { redraw = false }

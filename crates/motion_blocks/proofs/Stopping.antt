@@ -6,7 +6,7 @@ use Rattle.script_words.specs.declared.stops.Stop.{Stop}
 use Rattle.script_words.specs.declared.stops.Stop.TheVariants.{Stack, Text, Counter, NoMemory}
 use Rattle.machine_spec.specs.Outcome.{Goes, Spent, StopIs, last_number}
 use Rattle.machine_spec.specs.Words.{Words, draw}
-use Rattle.motion_blocks.specs.Stops.{IsOfWordsOrMemory}
+use Rattle.block_arguments.specs.Stops.{IsOfWordsOrMemory}
 
 by_room : {T A : Type 0} (b : Bool) (r : Result T Stop) (a : A) → StopIs r (cond b (Spent counter.Words) (Goes a)) → IfErr r IsOfWordsOrMemory
 by_room b (Ok t) a h = tt

@@ -13,7 +13,7 @@ ghost use Rattle.machine_spec.specs.declared.threads.Control.TheVariants.{Next};
 ghost use Rattle.target_records.specs.Records.{records_in};
 ghost use Rattle.targets.specs.Live.{IsSameCast};
 ghost use Rattle.motion_blocks.specs.Blocks.{leaves, parts_of};
-ghost use Rattle.motion_blocks.specs.Stops.{IsOfWordsOrMemory};
+ghost use Rattle.block_arguments.specs.Stops.{IsOfWordsOrMemory};
 
 use crate::{gliding, going, own, pointing, steps, turns};
 use devices::Devices;

@@ -19,28 +19,20 @@ ghost use Rattle.target_records.specs.Records.{records_in};
 ghost use Rattle.targets.specs.Live.{IsSameCast};
 ghost use Rattle.motion_blocks.specs.Blocks.{leaves, parts_of};
 ghost use Rattle.motion_blocks.specs.Points.{point};
-ghost use Rattle.motion_blocks.specs.Stops.{IsOfWordsOrMemory};
+ghost use Rattle.block_arguments.specs.Stops.{IsOfWordsOrMemory};
 
 use crate::own::{Point, stance_of};
-use crate::places::{given, point_named};
-use block_arguments::number;
+use crate::places::point_named;
+use block_arguments::{given, number};
 use devices::Devices;
 use machine_spec::{Boxed, Context, Control, GlideState, InstanceId};
 use operators::Written;
-use scratch_number::{Num, add, div, mul, of_whole, order, sub};
+use scratch_number::{Num, add, div, is_less, mul, of_whole, sub};
 use scratch_values::{Args, Value};
 use script_words::{Counted, Rng, Stop};
 use std::alloc::{AllocError, Global};
-use std::cmp::Ordering;
 use target_records::Records;
 use targets::Targets;
-
-// Whether a number is less than another; what is not a number is neither.
-fn is_less(a: Num, b: Num) -> bool
-    ensures { result ≡ less a b }
-{
-    matches!(order(a, b), Some(Ordering::Less))
-}
 
 // So much of the way from one number to another.
 fn part_way(part: Num, from: Num, to: Num) -> Num

@@ -10,10 +10,11 @@ ghost use Rattle.target_records.specs.Records.{records_in};
 ghost use Rattle.targets.specs.Live.{IsSameCast};
 ghost use Rattle.motion_blocks.specs.Blocks.{goes_on, parts_of};
 ghost use Rattle.motion_blocks.specs.Points.{point};
-ghost use Rattle.motion_blocks.specs.Stops.{IsOfWordsOrMemory};
+ghost use Rattle.block_arguments.specs.Stops.{IsOfWordsOrMemory};
 
 use crate::own::Point;
-use crate::places::{given, point_named};
+use crate::places::point_named;
+use block_arguments::given;
 use devices::Devices;
 use machine_spec::InstanceId;
 use operators::Written;

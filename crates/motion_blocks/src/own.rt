@@ -48,8 +48,5 @@ pub(crate) fn is_visible(here: InstanceId, targets: &Targets) -> bool
     ensures visible { result ≡ (instance_at here targets.now).visible }
     ensures same { targets.now ≡ on_instance here (λ i. i) targets.now }
 {
-    match targets.get(here) {
-        Some(own) => own.visible,
-        None => false,
-    }
+    targets.is_visible(here)
 }

@@ -1,8 +1,7 @@
 //! Places that a menu names.
 
-ghost use Rattle.std.specs.Prelude.{◌≡◌, ◌<◌, Some, unwrap_or, option_map, IfOk, IfErr};
+ghost use Rattle.std.specs.Prelude.{◌≡◌, ◌<◌, Some, option_map, IfOk, IfErr};
 ghost use Rattle.machine_spec.specs.Numbers.{whole};
-ghost use Rattle.scratch_values.specs.Named.{item_named};
 ghost use Rattle.machine_spec.specs.Motion as machine;
 ghost use Rattle.machine_spec.specs.Outcome.{Goes, StopIs};
 ghost use Rattle.machine_spec.specs.Random.{scattered};
@@ -11,27 +10,15 @@ ghost use Rattle.machine_spec.specs.Words.{seen_words};
 ghost use Rattle.target_records.specs.Records.{records_in};
 ghost use Rattle.motion_blocks.specs.Blocks.{parts_of};
 ghost use Rattle.motion_blocks.specs.Points.{point};
-ghost use Rattle.motion_blocks.specs.Stops.{IsOfWordsOrMemory};
+ghost use Rattle.block_arguments.specs.Stops.{IsOfWordsOrMemory};
 
 use crate::own::Point;
 use devices::Devices;
 use operators::next_word;
 use scratch_number::{Num, of_whole};
-use scratch_values::{Args, Value};
 use script_words::{Counted, Rng, Stop};
 use target_records::Records;
 use targets::Targets;
-
-// The value of an input, or what stands for one that is absent.
-#[inline]
-pub(crate) fn given<'v>(args: &'v Args<'_>, input: &str, absent: &'v Value) -> &'v Value
-    ensures { result.now ≡ unwrap_or (item_named input.now args.now.values) absent.now }
-{
-    match args.value(input) {
-        Some(value) => value,
-        None => absent,
-    }
-}
 
 // The whole number from −n/2 to n/2 that a word picks.
 pub(crate) fn scattered(n: u32, word: u32) -> Num

@@ -15,10 +15,11 @@ ghost use Rattle.target_records.specs.Records.{records_in};
 ghost use Rattle.targets.specs.Live.{IsSameCast};
 ghost use Rattle.motion_blocks.specs.Blocks.{goes_on, parts_of};
 ghost use Rattle.motion_blocks.specs.Points.{point};
-ghost use Rattle.motion_blocks.specs.Stops.{IsOfWordsOrMemory};
+ghost use Rattle.block_arguments.specs.Stops.{IsOfWordsOrMemory};
 
 use crate::own::{Point, stance_of};
-use crate::places::{given, point_named, scattered};
+use crate::places::{point_named, scattered};
+use block_arguments::given;
 use devices::Devices;
 use machine_spec::InstanceId;
 use operators::{Written, next_word};

@@ -14,7 +14,7 @@ use Rattle.machine_spec.specs.Program.{Records, record_at, stage_number}
 use Rattle.project_spec.specs.declared.blocks.Block.{Block}
 use Rattle.project_spec.specs.Reading.{File, file_of}
 use Rattle.project_spec.specs.Resolving.{Sort, OfVariable, OfList, Naming, found_in, names_of, with_added, or_added, resolved_name, resolved_names, names_in, resolved_blocks, resolved_targets}
-use Rattle.project_check.specs.Kept.{IsDressed}
+use Rattle.target_records.specs.Costumes.{IsDressed}
 use Rattle.project_check.proofs.Room.{few_costumes}
 
 -- Files

@@ -5,3 +5,4 @@ pub mod FirstTooMany
 pub mod Linking
 pub mod Caching
 pub mod Defining
+pub mod Linked

@@ -12,7 +12,7 @@ use Rattle.project_json.specs.declared.refusal.JsonRefusal.TheVariants as json
 use Rattle.json_shapes.specs.declared.fault.Fault.{Fault}
 use Rattle.json_shapes.specs.declared.fault.Fault.TheVariants as fault
 use Rattle.json_shapes.specs.Reads.{Reads}
-use Rattle.machine_spec.specs.Program.{record_at, no_target}
+use Rattle.machine_spec.specs.Program.{record_at, no_target, Records}
 use Rattle.project_spec.specs.declared.blocks.Block.{Block}
 use Rattle.project_spec.specs.declared.refusals.Refusal.{Refusal}
 use Rattle.project_spec.specs.declared.refusals.Refusal.TheVariants as refusal
@@ -21,7 +21,6 @@ use Rattle.project_spec.specs.Reading.{File, Origin, Table, blocks_in, file_of}
 use Rattle.project_spec.specs.Refusals.{tests, Passes, IsFirstOf, IsRefusal, TellsChecked}
 use Rattle.project_spec.specs.Resolving.{Found, resolved_targets}
 use Rattle.project_spec.specs.Trees.{program}
-use Rattle.machine_spec.specs.Program.{Records}
 use Rattle.target_records.specs.Records.{records_in}
 use Rattle.block_checks.specs.Kept.{Kept, IsKept, IsRefusal as IsBlockRefusal}
 use Rattle.name_resolving.specs.Room.{HasRoom}
@@ -29,7 +28,7 @@ use Rattle.block_table.specs.declared.table.BlockTable.{BlockTable}
 use Rattle.block_table.specs.Table.{Numbered, numbered}
 use Rattle.project_check.specs.declared.measuring.Measured.{Measured}
 use Rattle.project_check.specs.File.{file_in}
-use Rattle.project_check.specs.Kept.{IsDressed}
+use Rattle.target_records.specs.Costumes.{IsDressed}
 use Rattle.project_check.specs.Measured.{IsMeasured, IsRead}
 use Rattle.project_check.specs.Told.{IsTold}
 use Rattle.project_check.specs.Loaded.{Loads, Resolves, of_json, of_fault}

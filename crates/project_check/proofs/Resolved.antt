@@ -20,7 +20,8 @@ use Rattle.project_check.specs.Loaded.{checked_by, Resolves}
 use Rattle.project_check.specs.Counts.{block_count}
 use Rattle.project_check.specs.Heads.{head_numbers}
 use Rattle.cached_blocks.specs.declared.block.CachedBlock.{CachedBlock}
-use Rattle.project_check.specs.Kept.{CachesAll, IsDressed, IsProjectOf}
+use Rattle.project_check.specs.Kept.{CachesAll, IsProjectOf}
+use Rattle.target_records.specs.Costumes.{IsDressed}
 use Rattle.project_check.proofs.Room.{sum_by-map}
 use Rattle.project_check.proofs.Dressed.{targets-dressed}
 

@@ -5,8 +5,8 @@ use Rattle.project_spec.specs.declared.blocks.Block.{Block}
 use Rattle.project_spec.specs.declared.blocks.Resolved.{Resolved}
 use Rattle.project_spec.specs.Linked.{AreRanks}
 use Rattle.project_spec.specs.Refusals.{tests, Passes}
-use Rattle.machine_spec.specs.declared.records.TargetRecord.{TargetRecord}
 use Rattle.machine_spec.specs.Program.{Records}
+use Rattle.target_records.specs.Costumes.{IsDressed}
 use Rattle.block_checks.specs.Kept.{Kept}
 use Rattle.cached_blocks.specs.declared.block.CachedBlock.{CachedBlock}
 use Rattle.cached_blocks.specs.Cached.{sheet_with, cached_blocks}
@@ -18,10 +18,6 @@ abbrev pub CachesAll : List (List Block) → List (List (List Resolved)) → Lis
 CachesAll tables resolved cached =
     (t : ℕ) (blocks : List Block) (refs : List (List Resolved)) → slice_get tables t ≡ Some blocks → slice_get resolved t ≡ Some refs
     → slice_get cached t ≡ Some (cached_blocks (sheet_with blocks refs))
-
--- a target has a costume, and fewer than 2^32 of them
-abbrev pub IsDressed : TargetRecord → Type 0
-IsDressed t = (0 < length t.costumes) × (length t.costumes < 2 ^ 32)
 
 -- Each target has costumes, and its blocks, with ranks that fall along every link, and what each block names; the blocks
 -- pass all tests.

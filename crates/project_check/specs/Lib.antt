@@ -1,9 +1,9 @@
 pub mod Counts
 pub mod Heads
-pub mod Parts
 pub mod Procedures
 pub mod File
 pub mod Measured
 pub mod Kept
 pub mod Told
 pub mod Loaded
+pub mod Links

@@ -3,6 +3,7 @@ use Rattle.std.specs.Prelude.{◌≡◌, ℕ, ◌<◌, ◌^◌, Bool, false, Lis
 use Rattle.machine_spec.specs.Program.{Program, Records}
 use Rattle.project_spec.specs.declared.blocks.Block.{Block}
 use Rattle.project_spec.specs.declared.blocks.Resolved.{Resolved}
+use Rattle.project_spec.specs.Basis.{Basis}
 use Rattle.project_spec.specs.Resolving.{resolved_targets}
 use Rattle.project_spec.specs.Trees.{Sheet, program}
 use Rattle.project_spec.specs.Refusals.{IsRefusal}
@@ -41,6 +42,10 @@ ranks_at t p = unwrap_or (slice_get (map (λ l. l.ranks) (links_of p)) t) []
 -- the program: the records, the heads with their scripts, the procedures
 abbrev pub program_of : Project → Program
 program_of p = program (tables_of p) (record { records = records_in p.records; what = names_of p })
+
+-- the program, and how many blocks each target has
+abbrev pub basis_of : Project → Basis
+basis_of p = record { program = program_of p; blocks = map length (tables_of p) }
 
 -- the blocks of a target
 abbrev pub blocks_at : ℕ → Project → List Block

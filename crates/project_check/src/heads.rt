@@ -1,46 +1,16 @@
 //! The heads of a target.
 
-ghost use Rattle.std.specs.Prelude.{◌≡◌, ◌<◌, ◌^◌, ◌||◌, length, map, IfOk};
-ghost use Rattle.opcode_table.specs.declared.shape.Role.TheVariants as role;
-ghost use Rattle.project_spec.specs.Linked.{has_role, is_head};
+ghost use Rattle.std.specs.Prelude.{◌≡◌, ◌<◌, ◌^◌, length, map, IfOk};
 ghost use Rattle.project_check.specs.Heads.{head_numbers};
 
-use block_table::BlockTable;
+use block_table::{BlockTable, is_head};
 use lists::ListOf;
 use machine_spec::BlockId;
-use opcode_table::{Role, spec};
-use project_spec::{Block, Code};
+use project_spec::Block;
 use std::alloc::{AllocError, Global};
 
 /// The numbers of heads, in block order.
 pub type Heads = ListOf<BlockId>;
-
-// Whether the opcode is that of a hat or a definition.
-fn heads_stack(code: &Code) -> bool
-    ensures { result ≡ (has_role role.Hat code.now || has_role role.Definition code.now) }
-{
-    match code {
-        Code::Known(op) => match spec(*op).role {
-            Role::Hat => true,
-            Role::Definition => true,
-            Role::Prototype => false,
-            Role::Command => false,
-            Role::Reporter => false,
-        },
-        Code::Other(_) => false,
-    }
-}
-
-// Whether the block is a hat or a definition at the top of a stack.
-fn is_head(block: &Block) -> bool
-    ensures { result ≡ is_head block.now }
-{
-    if block.top_level {
-        heads_stack(&block.code)
-    } else {
-        false
-    }
-}
 
 // The heads among the blocks of a target.
 fn heads(alloc: Global, blocks: &[Block]) -> Result<Heads, AllocError>

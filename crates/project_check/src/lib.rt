@@ -11,7 +11,7 @@ mod procedures;
 mod project;
 
 pub use heads::Heads;
-pub use laws::every_project_is_of_an_accepted_file;
+pub use laws::{every_project_is_linked, every_project_is_of_an_accepted_file};
 pub use loading::load;
 pub use procedures::Callee;
 pub use project::Project;

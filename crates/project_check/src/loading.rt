@@ -4,7 +4,8 @@ ghost use Rattle.std.specs.Prelude.{◌≡◌, ◌<◌, ◌^◌, ℕ, List, leng
 ghost use Rattle.std.specs.List.{All, sum_by};
 ghost use Rattle.target_records.specs.Records.{records_in};
 ghost use Rattle.name_resolving.specs.Room.{HasRoom};
-ghost use Rattle.project_check.specs.Kept.{CachesAll, IsDressed};
+ghost use Rattle.project_check.specs.Kept.{CachesAll};
+ghost use Rattle.target_records.specs.Costumes.{IsDressed};
 ghost use Rattle.project_check.specs.Measured.{IsRead};
 ghost use Rattle.project_check.specs.Loaded.{Loads, Resolves, of_json, of_fault};
 

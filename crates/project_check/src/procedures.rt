@@ -2,44 +2,14 @@
 
 ghost use Rattle.std.specs.Prelude.{◌≡◌, Some, find};
 ghost use Rattle.std.specs.Option.{option_copied, option_map};
-ghost use Rattle.opcode_table.specs.declared.shape.Role.TheVariants as role;
 ghost use Rattle.project_spec.specs.declared.blocks.Input.TheVariants as held;
-ghost use Rattle.project_spec.specs.Linked.{has_role, named};
 ghost use Rattle.project_spec.specs.Trees.{prototype_at, linked_prototype};
 ghost use Rattle.project_check.specs.Procedures.{bare, callee_at, callee_in, defined, defined_at, defines_at, has_code};
 
+use block_table::{has_role, named};
 use machine_spec::BlockId;
-use opcode_table::{Role, spec};
-use project_json::Text;
-use project_spec::{Block, Code, Input, Link, Mutation, Prototype};
-
-// Whether the opcode is that of a definition.
-fn is_definition(code: &Code) -> bool
-    ensures { result ≡ has_role role.Definition code.now }
-{
-    match code {
-        Code::Known(op) => match spec(*op).role {
-            Role::Definition => true,
-            Role::Hat => false,
-            Role::Prototype => false,
-            Role::Command => false,
-            Role::Reporter => false,
-        },
-        Code::Other(_) => false,
-    }
-}
-
-// The first input with the name.
-fn named<'a>(name: &str, inputs: &'a [(Text, Input)]) -> Option<&'a Input>
-    ensures { option_copied result ≡ named name.now inputs.now }
-{
-    for (other, input) in inputs {
-        if other.as_str() == name {
-            return Some(input);
-        }
-    }
-    None
-}
+use opcode_table::Role;
+use project_spec::{Block, Input, Link, Mutation, Prototype};
 
 // What a block says of a procedure as its prototype.
 fn prototype(block: &Block) -> Option<&Prototype>
@@ -93,7 +63,7 @@ fn has_code(prototype: Option<&Prototype>, code: &str) -> bool
 fn defined<'a>(blocks: &'a [Block], block: &Block) -> Option<&'a Prototype>
     ensures { option_copied result ≡ defined blocks.now block.now }
 {
-    if is_definition(&block.code) {
+    if has_role(Role::Definition, &block.code) {
         linked_prototype(blocks, named("custom_block", block.inputs.as_slice()))
     } else {
         None

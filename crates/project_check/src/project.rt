@@ -5,13 +5,12 @@ ghost use Rattle.target_records.specs.Records.{records_in};
 ghost use Rattle.project_spec.specs.Resolving as told;
 ghost use Rattle.project_check.specs.Kept.{IsProjectOf};
 ghost use Rattle.project_check.specs.Told.{IsToldBySome};
-ghost use Rattle.project_check.specs.Parts.{is_part};
 
 use crate::heads::Heads;
 use crate::procedures::{Callee, called};
 use block_checks::BlockLinks;
 use block_table::BlockTable;
-use cached_blocks::{CachedBlock, CachedBlocks};
+use cached_blocks::{CachedBlock, CachedBlocks, ref_in};
 use machine_spec::{BlockId, TargetId};
 use name_resolving::ResolvedNames;
 use project_spec::{Block, Resolved};
@@ -48,30 +47,6 @@ impl Drop for Project {
     }
 }
 
-// Whether it is what this part of a block names.
-fn is_part(resolved: &Resolved, in_input: bool, part: &str) -> bool
-    ensures { result ≡ is_part in_input part.now resolved.now }
-{
-    if resolved.in_input == in_input {
-        resolved.part.as_str() == part
-    } else {
-        false
-    }
-}
-
-// What a part of a block names.
-fn ref_in(refs: &[Resolved], in_input: bool, part: &str) -> Option<VarRef>
-    ensures { result ≡ told.ref_in refs.now in_input part.now }
-{
-    match refs
-        .iter()
-        .find(|resolved| is_part(resolved, in_input, part))
-    {
-        Some(resolved) => Some(resolved.variable),
-        None => None,
-    }
-}
-
 impl Project {
     ghost use Rattle.std.specs.Prelude.{◌≡◌, ◌<◌, [], true, false, length, slice_get, slice_index, option_map, unwrap_or, find, Some, IfSome};
     ghost use Rattle.std.specs.List.{All};
@@ -83,7 +58,7 @@ impl Project {
     ghost use Rattle.machine_spec.specs.Program.{definition_of, procedure};
     ghost use Rattle.project_check.specs.Counts.{block_count};
     ghost use Rattle.project_check.specs.Heads.{head_numbers};
-    ghost use Rattle.project_check.specs.Kept.{IsDressed};
+    ghost use Rattle.target_records.specs.Costumes.{IsDressed};
     ghost use Rattle.project_check.specs.Procedures.{callee_at, callee_in, defines_at, procedure_in};
     ghost use Rattle.project_check.specs.Loaded.{tables_of, program_of, blocks_at, ids_at, names_at, ranks_at, sheet_at};
 

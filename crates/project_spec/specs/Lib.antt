@@ -11,3 +11,4 @@ pub mod TreeAt
 pub mod Unrolling
 pub mod Reading
 pub mod Refusals
+pub mod Basis

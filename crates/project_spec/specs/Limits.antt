@@ -1,6 +1,6 @@
 -- How much a project file may hold: counts, the items of lists, and the length of each text that a run can use as a value.
 -- The first that is too many is told by its path.
-use Rattle.std.specs.Prelude.{ℕ, ◌+◌, nat_lt, Bool, true, false, List, [], ◌∷◌, ◌++◌, length, codes, find, flat_map, Option, None, Some, option_map}
+use Rattle.std.specs.Prelude.{ℕ, ◌+◌, ◌*◌, ◌^◌, nat_lt, Bool, true, false, List, [], ◌∷◌, ◌++◌, length, codes, find, flat_map, Option, None, Some, option_map}
 use Rattle.std.specs.Fmt.{decimal}
 use Rattle.std.specs.List.{enumerate_from, zip}
 use Rattle.scratch_values.specs.declared.value.Value.{Value}
@@ -15,6 +15,10 @@ use Rattle.project_spec.specs.Blocks.{Input, Mutation, Block}
 use Rattle.project_spec.specs.declared.blocks.Input.TheVariants as input
 use Rattle.project_spec.specs.declared.blocks.Mutation.TheVariants as mutation
 use Rattle.project_spec.specs.Reading.{Origin, Table, File}
+
+-- the bytes of a project file: 32 MiB
+abbrev pub project_limit : ℕ
+project_limit = 32 * 2 ^ 20
 
 abbrev pub most_targets : ℕ
 most_targets = 1000

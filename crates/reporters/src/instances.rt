@@ -1,23 +1,23 @@
 //! What is told of an instance and of its target.
 
-ghost use Rattle.std.specs.Prelude.{◌≡◌, ◌+◌, [], slice_get, slice_index_or, unwrap_or, pos, IfOk, IfSome};
+ghost use Rattle.std.specs.Prelude.{◌≡◌, ◌+◌, [], slice_index_or, unwrap_or, pos, IfOk};
 ghost use Rattle.std.specs.Option.{option_map};
 ghost use Rattle.scratch_values.specs.declared.value.Value.TheVariants as values;
 ghost use Rattle.machine_spec.specs.Numbers.{whole};
 ghost use Rattle.machine_spec.specs.Program.{record_at};
 ghost use Rattle.machine_spec.specs.Sensing as machine;
 ghost use Rattle.machine_spec.specs.Stores.{live, no_instance};
-ghost use Rattle.target_records.specs.Held.{IsSmall};
 ghost use Rattle.target_records.specs.Records.{records_in};
 ghost use Rattle.reporters.specs.Sight.{seen};
 
 use crate::sight::{Sight, stage};
-use machine_spec::{CostumeNames, Instance, TargetId, TargetRecord};
+use machine_spec::{CostumeNames, Instance, TargetId};
 use operators::empty_text;
 use scratch_number::{Num, of_whole};
 use scratch_values::Value;
 use std::alloc::{AllocError, Global};
 use target_records::Records;
+use targets::{costume_of, target_of};
 
 // The instance that evaluates.
 #[inline]
@@ -41,17 +41,6 @@ pub(crate) fn sprite<'a>(sight: &Sight<'a>, name: &str) -> Option<&'a Instance>
     match sight.targets.sprite_named(sight.records, name) {
         Some(number) => sight.targets.get(number),
         None => None,
-    }
-}
-
-// The target of an instance; the first one of the file where it is not live.
-#[inline]
-pub(crate) fn target_of(instance: Option<&Instance>) -> TargetId
-    ensures { result ≡ (unwrap_or (option_map (λ i. i.now) instance.entry) no_instance).of }
-{
-    match instance {
-        Some(instance) => instance.of,
-        None => TargetId(0),
     }
 }
 
@@ -99,22 +88,11 @@ pub(crate) fn size(instance: Option<&Instance>) -> Num
     }
 }
 
-// The record of a target, if there is one.
-pub(crate) fn record<'a>(records: &'a Records, target: TargetId) -> Option<&'a TargetRecord>
-    ensures record { option_map (λ t. t.now) result ≡ slice_get (records_in records.now).targets target }
-    ensures small { IfSome result (λ t. IsSmall t.now) }
-{
-    if target.0 >= records.targets() {
-        return None;
-    }
-    Some(records.target(target))
-}
-
 // Whether a target is the stage.
 pub(crate) fn is_stage(records: &Records, target: TargetId) -> bool
     ensures { result ≡ (record_at target (records_in records.now)).is_stage }
 {
-    match record(records, target) {
+    match records.get(target) {
         Some(record) => record.is_stage,
         None => false,
     }
@@ -124,7 +102,7 @@ pub(crate) fn is_stage(records: &Records, target: TargetId) -> bool
 pub(crate) fn volume(records: &Records, target: TargetId) -> Num
     ensures { result ≡ (record_at target (records_in records.now)).volume }
 {
-    match record(records, target) {
+    match records.get(target) {
         Some(record) => record.volume,
         None => of_whole(0),
     }
@@ -149,20 +127,9 @@ fn name_of_costume(
 ) -> Result<Value, AllocError>
     ensures { IfOk result (λ v. v ≡ values.Text (slice_index_or (record_at target (records_in records.now)).costumes costume [])) }
 {
-    match record(records, target) {
+    match records.get(target) {
         Some(record) => costume_at(alloc, &record.costumes, costume),
         None => empty_text(alloc),
-    }
-}
-
-// The present costume of an instance, from 0.
-#[inline]
-fn costume(instance: Option<&Instance>) -> u32
-    ensures { result ≡ (unwrap_or (option_map (λ i. i.now) instance.entry) no_instance).costume }
-{
-    match instance {
-        Some(instance) => instance.costume,
-        None => 0,
     }
 }
 
@@ -170,7 +137,7 @@ fn costume(instance: Option<&Instance>) -> u32
 pub(crate) fn costume_number(instance: Option<&Instance>) -> Num
     ensures { result ≡ whole (pos ((unwrap_or (option_map (λ i. i.now) instance.entry) no_instance).costume + 1)) }
 {
-    of_whole(i64::from(costume(instance)) + 1)
+    of_whole(i64::from(costume_of(instance)) + 1)
 }
 
 // The name of the present costume. The only error is want of memory.
@@ -181,7 +148,7 @@ pub(crate) fn costume_name(
 ) -> Result<Value, AllocError>
     ensures { IfOk result (λ v. v ≡ values.Text (machine.costume_name (records_in records.now) (unwrap_or (option_map (λ i. i.now) instance.entry) no_instance))) }
 {
-    name_of_costume(alloc, records, target_of(instance), costume(instance))
+    name_of_costume(alloc, records, target_of(instance), costume_of(instance))
 }
 
 // The number of the present costume, from 1, or its name. The only error is want of memory.

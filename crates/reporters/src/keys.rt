@@ -21,14 +21,9 @@ fn key_of_chars(text: &str) -> Option<Key>
 fn key_of(text: &str) -> Option<Key>
     ensures { result ≡ machine.key_of text.now }
 {
-    match text {
-        "space" => Some(Key::Space),
-        "enter" => Some(Key::Enter),
-        "left arrow" => Some(Key::Left),
-        "right arrow" => Some(Key::Right),
-        "up arrow" => Some(Key::Up),
-        "down arrow" => Some(Key::Down),
-        _ => key_of_chars(text),
+    match Key::in_words(text) {
+        Some(key) => Some(key),
+        None => key_of_chars(text),
     }
 }
 

@@ -3,7 +3,6 @@
 //! scratch3_procedures.js).
 #![tactic(auto)]
 
-mod arguments;
 mod instances;
 mod keys;
 mod list_items;

@@ -12,7 +12,7 @@ ghost use Rattle.scratch_number.specs.Arithmetic.{sub};
 ghost use Rattle.reporters.specs.Sight.{seen};
 
 use crate::instances::{
-    costume_name, costume_number, is_stage, own, record, sprite, stage_of, target_of, volume, x, y,
+    costume_name, costume_number, is_stage, own, sprite, stage_of, volume, x, y,
 };
 use crate::sight::Sight;
 use machine_spec::{Instance, InstanceId, TargetId, VariableRecord};
@@ -20,6 +20,7 @@ use scratch_number::{Num, add, mul, of_whole, sqrt, sub};
 use scratch_values::Value;
 use std::alloc::{AllocError, Global};
 use target_records::Records;
+use targets::target_of;
 use variables::Variables;
 
 // How far two places are apart, by their distances from left to right and from bottom to top.
@@ -77,7 +78,7 @@ fn place_of(variables: &[VariableRecord], name: &str) -> Option<usize>
 fn variable_named(records: &Records, target: TargetId, name: &str) -> Option<u32>
     ensures { result ≡ position (λ r. bytes_eq r.name.name name.now) (record_at target (records_in records.now)).variables }
 {
-    match record(records, target) {
+    match records.get(target) {
         Some(record) => match place_of(record.variables.as_slice(), name) {
             Some(place) => Some(place as u32),
             None => None,

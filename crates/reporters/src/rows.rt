@@ -19,19 +19,19 @@ ghost use Rattle.machine_spec.specs.View.{field_at, number_at, text_at, truth_at
 ghost use Rattle.machine_spec.specs.Words.{made_of, seen_words};
 ghost use Rattle.reporters.specs.Sight.{seen};
 
-use crate::arguments::{given, named};
-use crate::instances::{number_or_name, own, stage_of, target_of, volume};
+use crate::instances::{number_or_name, own, stage_of, volume};
 use crate::keys::is_pressed;
 use crate::list_items::{item_count, item_number, item_of};
 use crate::properties::{distance_to, property_of};
 use crate::sight::{Sight, contents, items, variable};
-use block_arguments::{field, number, truth};
+use block_arguments::{field, given, named, number, truth};
 use operators::{Written, char_count, has_text, is_among, is_equal, joined, letter, pick_random};
 use scratch_number::{Num, of_whole};
 use scratch_values::{Args, Value, compare};
 use script_words::{Counted, Rng, Stop};
 use std::alloc::{AllocError, Global};
 use std::cmp::Ordering;
+use targets::target_of;
 
 // Which of the two sides of a comparison is less. The only error is want of memory.
 fn order(alloc: Global, args: &Args<'_>) -> Result<Ordering, AllocError>

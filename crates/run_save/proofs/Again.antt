@@ -1,21 +1,22 @@
 -- The text of a legal world is loaded as the run of that world.
-use Rattle.std.proofs.Common.{◌≡◌, ℕ, false, List, Result, Ok, Err, refl, sym, ap, ◌∙◌, subst}
+use Rattle.std.proofs.Common.{◌≡◌, ℕ, List, Result, Ok, Err, refl, sym, ap, ◌∙◌, subst}
 use Rattle.rand_core.specs.Stream.{Stream}
 use Rattle.project_check.specs.declared.project.Project.{Project}
 use Rattle.machine_spec.specs.Tasks.{Task}
-use Rattle.machine_spec.specs.World.{World}
-use Rattle.saved_spec.specs.Basis.{Basis, basis_of}
+use Rattle.machine_spec.specs.World.{World, as_saved}
+use Rattle.project_spec.specs.Basis.{Basis}
+use Rattle.project_check.specs.Loaded.{basis_of}
 use Rattle.saved_spec.specs.Laws.{OneAnswer}
 use Rattle.saved_spec.specs.Legal.{told}
 use Rattle.saved_spec.specs.Refusals.{IsAccepted, IsRefused}
 use Rattle.saved_spec.specs.RunShapes.{Told}
 use Rattle.saved_spec.specs.declared.refusals.SaveRefusal.{SaveRefusal}
 use Rattle.saved_spec.specs.declared.refusals.SaveRefusal.TheVariants.{Json, Version, Shape, OtherProject, BadReference, BadThread, Spelling, NoMemory}
-use Rattle.saved_text.specs.Saved.{snapshot}
+use Rattle.saved_spec.specs.Saved.{snapshot}
 use Rattle.sequencer.specs.declared.run.Run.{Run}
 use Rattle.laws_of_saving.specs.Good.{IsDigest}
 use Rattle.laws_of_saving.specs.Laws.{TextIsAccepted, WorldIsTold}
-use Rattle.laws_of_saving.specs.Worlds.{world_told}
+use Rattle.saved_spec.specs.Worlds.{world_told}
 use Rattle.run_save.specs.Loading.{IsThatRun, Loads, LoadsAgain}
 
 -- bytes that tell a run are refused for want of memory alone
@@ -39,7 +40,7 @@ refused_alone one stream p digest bytes u seed w (Spelling at) a h = other (Spel
 -- and by nothing else
 
 only_that : OneAnswer → {R : Type 0} (stream : R → Stream) (p : Project) (digest bytes : List ℕ) (result : Result (Run R × ℕ) SaveRefusal) → Loads stream p digest bytes result
-    → (seed : ℕ) (w : World Task) → IsAccepted (basis_of p) digest bytes (told (snapshot digest seed w)) → world_told (basis_of p) (told (snapshot digest seed w)) ≡ record w { redraw = false }
+    → (seed : ℕ) (w : World Task) → IsAccepted (basis_of p) digest bytes (told (snapshot digest seed w)) → world_told (basis_of p) (told (snapshot digest seed w)) ≡ as_saved w
     → IsThatRun stream p seed w result
 only_that one stream p digest bytes (Ok r) h seed w again same =
     let u = told (snapshot digest seed w) in

@@ -4,7 +4,7 @@ use Rattle.std.specs.Prelude.{IsErrAnd}
 use Rattle.std.proofs.lemmas.Result.{err_from_is_err_and}
 use Rattle.hex.specs.Hex.{encode_lower}
 use Rattle.serde_json.specs.Data.{Data}
-use Rattle.saved_spec.specs.Basis.{Basis}
+use Rattle.project_spec.specs.Basis.{Basis}
 use Rattle.saved_spec.specs.Kept.{thread}
 use Rattle.saved_spec.specs.Levels.{bad_thread}
 use Rattle.saved_spec.specs.Refusals.{Reads, IsAccepted, IsRefused, by_rules, by_shape, by_spelling, by_threads, by_version, first_difference, judged, other_version}
@@ -12,7 +12,7 @@ use Rattle.saved_spec.specs.Rules.{broken}
 use Rattle.saved_spec.specs.RunShapes.{Told, run}
 use Rattle.saved_spec.specs.declared.refusals.SaveRefusal.{SaveRefusal}
 use Rattle.saved_spec.specs.declared.refusals.SaveRefusal.TheVariants.{Json, Version, Shape, OtherProject, BadReference, BadThread, Spelling, NoMemory}
-use Rattle.saved_text.specs.Saved.{saved_text}
+use Rattle.saved_spec.specs.Saved.{saved_text}
 use Rattle.run_save.specs.Steps.{IsOf, IsTold, Keeps, Shapes}
 
 -- the refusals in their order

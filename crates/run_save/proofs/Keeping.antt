@@ -12,7 +12,8 @@ use Rattle.project_check.specs.declared.project.Project.{Project}
 use Rattle.executions.specs.Ready.{ArePeopled, HasNoneFrom}
 use Rattle.saved_parts.specs.Telling.{instance_of, store_of, told_of}
 use Rattle.saved_parts.specs.declared.run.ToldRun.{ToldRun}
-use Rattle.saved_spec.specs.Basis.{Basis, basis_of, records_of}
+use Rattle.project_spec.specs.Basis.{Basis, records_of}
+use Rattle.project_check.specs.Loaded.{basis_of}
 use Rattle.saved_spec.specs.Kept.{SavedThread}
 use Rattle.saved_spec.specs.RunShapes.{Told}
 use Rattle.saved_spec.specs.Rules.{Rule, rule, rules, broken, is_next, is_sprite, is_named, is_of_hat, is_key_name, is_short, values_kept, keys_are_held, words_are_counted, frames_are_counted, next_are_counted, originals_are_there, clones_are_sprites, params_are_short, threads_are_of_hats, levels_are_few}

@@ -14,7 +14,7 @@ use Rattle.machine_spec.specs.Script.{Script}
 use Rattle.machine_spec.specs.Stores.{Devices, live}
 use Rattle.machine_spec.specs.Threads.{is_done}
 use Rattle.project_check.specs.declared.project.Project.{Project}
-use Rattle.project_check.specs.Loaded.{sheet_at}
+use Rattle.project_check.specs.Loaded.{sheet_at, basis_of}
 use Rattle.executions.specs.Ready.{IsOfLive}
 use Rattle.executions.specs.Seen.{sheets}
 use Rattle.thread_frames.specs.declared.parts.ThreadPart.{ThreadPart}
@@ -24,19 +24,18 @@ use Rattle.thread_frames.specs.Reading.{pending, task}
 use Rattle.thread_frames.specs.Rebuilding.{thread_of}
 use Rattle.thread_frames.specs.Threads.{Thread}
 use Rattle.saved_levels.specs.Read.{task_with}
-use Rattle.saved_spec.specs.Basis.{basis_of}
 use Rattle.saved_spec.specs.Kept.{SavedThread, thread_told}
 use Rattle.saved_spec.specs.Legal.{StandsIn, StandsFirst}
 use Rattle.saved_spec.specs.Levels.{bad_thread, thread_is_well}
 use Rattle.saved_spec.specs.Rules.{target_of}
 use Rattle.saved_spec.specs.RunShapes.{Told}
-use Rattle.saved_spec.specs.Threads.{items_fit, promises_fit, stands_well}
+use Rattle.saved_spec.specs.ThreadRules.{items_fit, promises_fit, stands_well}
 use Rattle.saved_spec.specs.declared.refusals.SaveRefusal.{SaveRefusal}
 use Rattle.saved_spec.specs.declared.refusals.SaveRefusal.TheVariants.{Json, Version, Shape, OtherProject, BadReference, BadThread, Spelling, NoMemory}
 use Rattle.rand_core.specs.Stream.{Stream}
 use Rattle.run_save.specs.Loading.{Makes}
 use Rattle.run_save.specs.Parts.{AllParted, AreParts, IsPart, IsReady, Parted, first_bad}
-use Rattle.laws_of_saving.specs.Worlds.{items_told, task_told, warp_told}
+use Rattle.saved_spec.specs.Worlds.{items_told, task_told, warp_told}
 use Rattle.run_save.specs.Worlds.{AllTold}
 use Rattle.run_save.proofs.Worlds.{same_task}
 

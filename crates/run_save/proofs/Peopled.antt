@@ -6,14 +6,11 @@ use Rattle.std.proofs.lemmas.Bool.Decides.{nat_tests}
 use Rattle.std.proofs.lemmas.List.Sums.{sum_by-cons, AllPass-from_list_all}
 use Rattle.std.proofs.lemmas.List.FromFn.{length-range_with_len, get_or-range_with_len}
 use Rattle.machine_spec.specs.declared.instance.Instance.{Instance}
-use Rattle.machine_spec.specs.Stores.{live}
+use Rattle.machine_spec.specs.Stores.{live, is_original}
 use Rattle.machine_spec.specs.declared.variables.Store.{Store}
 use Rattle.targets.specs.Live.{IsLive, target_of}
 use Rattle.saved_spec.specs.RunShapes.{store_among, stores_in_order}
-use Rattle.saved_spec.specs.Rules.{Rule, rule, differ, is_original}
-use Rattle.targets.specs.Live.{IsLive, target_of}
-use Rattle.saved_spec.specs.RunShapes.{store_among, stores_in_order}
-use Rattle.saved_spec.specs.Rules.{Rule, rule, differ, is_original}
+use Rattle.saved_spec.specs.Rules.{Rule, rule, differ}
 
 -- A rule of those of which none is broken holds
 

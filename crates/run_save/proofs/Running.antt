@@ -4,7 +4,7 @@ use Rattle.std.specs.List.{All}
 use Rattle.rand_core.specs.Stream.{Stream}
 use Rattle.machine_spec.specs.Places.{Everyone, shown_by}
 use Rattle.machine_spec.specs.Threads.{is_done}
-use Rattle.machine_spec.specs.Words.{seen_words}
+use Rattle.machine_spec.specs.Words.{seen_words, words_after}
 use Rattle.project_check.specs.declared.project.Project.{Project}
 use Rattle.executions.specs.Ready.{ArePeopled, HasNoneFrom, IsOfLive}
 use Rattle.executions.specs.Resting.{IsIdle}
@@ -16,14 +16,13 @@ use Rattle.thread_frames.specs.Reading.{task}
 use Rattle.thread_frames.specs.Rebuilding.{threads_of}
 use Rattle.saved_parts.specs.Telling.{told_of}
 use Rattle.saved_parts.specs.declared.run.ToldRun.{ToldRun}
-use Rattle.saved_spec.specs.Basis.{basis_of}
+use Rattle.project_check.specs.Loaded.{basis_of}
 use Rattle.saved_spec.specs.Rules.{broken}
 use Rattle.sequencer.specs.Runs.{IsRunOf}
 use Rattle.sequencer.specs.declared.run.Run.{Run}
 use Rattle.run_save.specs.Loading.{IsRunTold}
 use Rattle.run_save.specs.Parts.{AreParts}
-use Rattle.laws_of_words.specs.Words.{words_after}
-use Rattle.laws_of_saving.specs.Worlds.{world_told}
+use Rattle.saved_spec.specs.Worlds.{world_told}
 use Rattle.run_save.proofs.Keeping.{all_ready, free, people, threads_below}
 use Rattle.run_save.proofs.Parts.{all_alive, all_fit, all_live, tasks_are}
 use Rattle.run_save.proofs.Worlds.{same_world}

@@ -14,9 +14,10 @@ use Rattle.sequencer.specs.Runs.{world_of, IsRunOf}
 use Rattle.sequencer.specs.declared.run.Run.{Run}
 use Rattle.run_save.specs.Saving.{HasParts}
 use Rattle.saved_text.specs.Laws.{IsKept, RangesOfWhatIsLeft, SavesWhatIsLeft}
-use Rattle.saved_text.specs.Ranges.{IsRun, IsTask, IsThread}
-use Rattle.saved_text.specs.Saved.{Snapshot, snapshot, saved, saved_text}
-use Rattle.saved_text.specs.Tasks.{task}
+use Rattle.saved_spec.specs.Ranges.{IsRun, IsTask}
+use Rattle.saved_text.specs.Ranges.{IsThread}
+use Rattle.saved_spec.specs.Saved.{Snapshot, snapshot, saved, saved_text}
+use Rattle.saved_spec.specs.Tasks.{task}
 use Rattle.saved_text.specs.Threads.{thread}
 use Rattle.serde_json.specs.Written.{compact_text}
 

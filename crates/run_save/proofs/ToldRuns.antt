@@ -9,13 +9,13 @@ use Rattle.machine_spec.specs.Line.{key_name}
 use Rattle.machine_spec.specs.ScriptText.{key_of_rest}
 use Rattle.saved_parts.specs.Telling.{told_of}
 use Rattle.saved_parts.specs.declared.run.ToldRun.{ToldRun}
-use Rattle.saved_spec.specs.Basis.{Basis}
+use Rattle.project_spec.specs.Basis.{Basis}
 use Rattle.saved_spec.specs.Kept.{SavedThread, thread_told}
 use Rattle.saved_spec.specs.Legal.{told}
 use Rattle.saved_spec.specs.Rules.{is_key_name}
 use Rattle.saved_spec.specs.RunShapes.{Told}
-use Rattle.saved_text.specs.Saved.{snapshot}
-use Rattle.laws_of_saving.specs.Worlds.{task_told, world_told}
+use Rattle.saved_spec.specs.Saved.{snapshot}
+use Rattle.saved_spec.specs.Worlds.{task_told, world_told}
 use Rattle.run_save.specs.Worlds.{AllTold}
 
 -- keys by their names

@@ -8,20 +8,21 @@ use Rattle.serde_json.specs.Written.{compact_text}
 use Rattle.project_check.specs.declared.project.Project.{Project}
 use Rattle.saved_parts.specs.Telling.{told_of}
 use Rattle.saved_parts.specs.declared.run.ToldRun.{ToldRun}
-use Rattle.saved_spec.specs.Basis.{Basis, basis_of}
+use Rattle.project_spec.specs.Basis.{Basis}
+use Rattle.project_check.specs.Loaded.{basis_of}
 use Rattle.saved_spec.specs.Kept.{thread}
 use Rattle.saved_spec.specs.Laws.{TellsWhatIsSaved}
 use Rattle.saved_spec.specs.Refusals.{IsRefused}
 use Rattle.saved_spec.specs.Rules.{is_key_name}
 use Rattle.saved_spec.specs.declared.refusals.SaveRefusal.{SaveRefusal}
 use Rattle.saved_spec.specs.declared.refusals.SaveRefusal.TheVariants.{Json, Version, Shape, OtherProject, BadReference, BadThread, Spelling, NoMemory}
-use Rattle.saved_text.specs.Saved.{snapshot, saved, saved_text}
-use Rattle.saved_text.specs.Tasks.{task}
+use Rattle.saved_spec.specs.Saved.{snapshot, saved, saved_text}
+use Rattle.saved_spec.specs.Tasks.{task}
 use Rattle.sequencer.specs.Runs.{world_of}
 use Rattle.sequencer.specs.declared.run.Run.{Run}
 use Rattle.run_save.specs.Loading.{IsRunTold, Makes}
 use Rattle.run_save.specs.Steps.{IsTold}
-use Rattle.laws_of_saving.specs.Worlds.{world_told}
+use Rattle.saved_spec.specs.Worlds.{world_told}
 use Rattle.run_save.specs.Worlds.{AllTold}
 use Rattle.run_save.proofs.Judging.{refused_thread}
 use Rattle.run_save.proofs.Keeping.{keys_named}

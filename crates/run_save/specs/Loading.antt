@@ -1,14 +1,13 @@
 -- What the loading of a saved run answers.
-use Rattle.std.specs.Prelude.{◌≡◌, ℕ, List, false, None, Some, Result, Ok, Err}
+use Rattle.std.specs.Prelude.{◌≡◌, ℕ, List, None, Some, Result, Ok, Err}
 use Rattle.rand_core.specs.Stream.{Stream}
 use Rattle.machine_spec.specs.Tasks.{Task}
-use Rattle.machine_spec.specs.World.{World}
-use Rattle.project_check.specs.Loaded.{program_of}
+use Rattle.machine_spec.specs.World.{World, as_saved}
+use Rattle.project_check.specs.Loaded.{program_of, basis_of}
 use Rattle.project_check.specs.declared.project.Project.{Project}
-use Rattle.saved_text.specs.Ranges.{IsRun, IsTask}
-use Rattle.saved_text.specs.Saved.{snapshot, saved_text}
-use Rattle.saved_text.specs.Tasks.{task}
-use Rattle.saved_spec.specs.Basis.{basis_of}
+use Rattle.saved_spec.specs.Ranges.{IsRun, IsTask}
+use Rattle.saved_spec.specs.Saved.{snapshot, saved_text}
+use Rattle.saved_spec.specs.Tasks.{task}
 use Rattle.saved_spec.specs.Levels.{bad_thread}
 use Rattle.saved_spec.specs.Refusals.{IsAccepted, IsRefused}
 use Rattle.saved_spec.specs.RunShapes.{Told}
@@ -18,7 +17,7 @@ use Rattle.sequencer.specs.Runs.{world_of, IsRunOf}
 use Rattle.sequencer.specs.declared.run.Run.{Run}
 use Rattle.laws_of_worlds.specs.Runs.{IsLegalRun}
 use Rattle.laws_of_saving.specs.Good.{IsGood}
-use Rattle.laws_of_saving.specs.Worlds.{world_told}
+use Rattle.saved_spec.specs.Worlds.{world_told}
 use Rattle.run_save.specs.Worlds.{AllTold}
 
 -- a run of this project whose world is the one that is told
@@ -33,7 +32,7 @@ Loads stream p digest bytes (Err e) = IsRefused (basis_of p) digest bytes e
 
 -- the run of this world, but for its redraw request, and of this seed; or memory ran out
 abbrev pub IsThatRun : {R : Type 0} → (R → Stream) → Project → (seed : ℕ) → World Task → Result (Run R × ℕ) SaveRefusal → Type 0
-IsThatRun stream p seed w (Ok r) = (world_of stream p r.0 ≡ record w { redraw = false }) × (r.1 ≡ seed)
+IsThatRun stream p seed w (Ok r) = (world_of stream p r.0 ≡ as_saved w) × (r.1 ≡ seed)
 IsThatRun stream p seed w (Err NoMemory) = Unit {0}
 IsThatRun stream p seed w (Err e) = ⊥
 

@@ -8,7 +8,7 @@ use Rattle.thread_frames.specs.Rebuilding.{thread_of}
 use Rattle.machine_spec.specs.declared.instance.Instance.{Instance}
 use Rattle.machine_spec.specs.Stores.{live}
 use Rattle.saved_levels.specs.Read.{IsMade}
-use Rattle.saved_spec.specs.Basis.{basis_of}
+use Rattle.project_check.specs.Loaded.{basis_of}
 use Rattle.saved_spec.specs.Kept.{SavedThread}
 use Rattle.saved_spec.specs.Levels.{thread_is_well}
 use Rattle.saved_spec.specs.Rules.{is_short, target_of, values_kept}

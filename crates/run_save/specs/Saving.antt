@@ -3,7 +3,7 @@ use Rattle.std.specs.Prelude.{◌≡◌, ℕ, List}
 use Rattle.hex.specs.Hex.{encode_lower}
 use Rattle.script_words.specs.Counting.{drawn_of}
 use Rattle.thread_frames.specs.Threads.{Thread}
-use Rattle.saved_text.specs.Saved.{Snapshot}
+use Rattle.saved_spec.specs.Saved.{Snapshot}
 use Rattle.sequencer.specs.declared.run.Run.{Run}
 
 -- what is saved are the parts of a run

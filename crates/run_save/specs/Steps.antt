@@ -4,7 +4,7 @@ use Rattle.hex.specs.Hex.{encode_lower}
 use Rattle.serde_json.specs.Data.{Data}
 use Rattle.saved_parts.specs.Telling.{told_of}
 use Rattle.saved_parts.specs.declared.run.ToldRun.{ToldRun}
-use Rattle.saved_spec.specs.Basis.{Basis}
+use Rattle.project_spec.specs.Basis.{Basis}
 use Rattle.saved_spec.specs.Refusals.{Reads, other_version, IsRefused}
 use Rattle.saved_spec.specs.RunShapes.{Told, run}
 use Rattle.saved_spec.specs.Rules.{broken}

@@ -1,9 +1,9 @@
 -- Helpers of private functions: that the threads of a run are told as they are.
 use Rattle.std.specs.Prelude.{◌≡◌, List, [], ◌∷◌}
-use Rattle.saved_spec.specs.Basis.{Basis}
+use Rattle.project_spec.specs.Basis.{Basis}
 use Rattle.saved_spec.specs.Kept.{SavedThread, thread_told}
 use Rattle.saved_spec.specs.RunShapes.{Told}
-use Rattle.laws_of_saving.specs.Worlds.{task_told}
+use Rattle.saved_spec.specs.Worlds.{task_told}
 
 -- what each of these threads of the machine has to do is told so
 abbrev pub AllTold : Basis → Told → List SavedThread → Type 0

@@ -3,11 +3,11 @@
 ghost use Rattle.std.specs.Prelude.{◌≡◌, None, IfOk};
 ghost use Rattle.script_words.specs.Words.{answers};
 ghost use Rattle.saved_parts.specs.Telling.{told_of};
-ghost use Rattle.saved_spec.specs.Basis.{basis_of};
+ghost use Rattle.project_check.specs.Loaded.{basis_of};
 ghost use Rattle.saved_spec.specs.Rules.{broken};
 ghost use Rattle.saved_spec.specs.Refusals.{first_difference};
-ghost use Rattle.saved_text.specs.Saved.{saved_text, snapshot};
-ghost use Rattle.saved_text.specs.Tasks.{task};
+ghost use Rattle.saved_spec.specs.Saved.{saved_text, snapshot};
+ghost use Rattle.saved_spec.specs.Tasks.{task};
 ghost use Rattle.sequencer.specs.Runs.{world_of, IsRunOf};
 ghost use Rattle.run_save.specs.Loading.{Loads, LoadsAgain, Makes};
 

@@ -1,11 +1,11 @@
 //! A run saved.
 
 ghost use Rattle.std.specs.Prelude.{IfOk};
-ghost use Rattle.saved_text.specs.Ranges.{IsRun, IsTask};
-ghost use Rattle.saved_text.specs.Saved.{saved_text, snapshot};
-ghost use Rattle.saved_text.specs.Saving.{IsSaved, longest};
+ghost use Rattle.saved_spec.specs.Ranges.{IsRun, IsTask};
+ghost use Rattle.saved_spec.specs.Saved.{saved_text, snapshot, longest};
+ghost use Rattle.saved_text.specs.Saving.{IsSaved};
 ghost use Rattle.saved_text.specs.Seen.{seen};
-ghost use Rattle.saved_text.specs.Tasks.{task};
+ghost use Rattle.saved_spec.specs.Tasks.{task};
 ghost use Rattle.sequencer.specs.Runs.{world_of, IsRunOf};
 ghost use Rattle.run_save.specs.Saving.{HasParts};
 

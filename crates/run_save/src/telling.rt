@@ -4,7 +4,7 @@ ghost use Rattle.std.specs.Prelude.{◌≡◌};
 ghost use Rattle.hex.specs.Hex.{encode_lower};
 ghost use Rattle.serde_json.specs.View.{view};
 ghost use Rattle.saved_parts.specs.Telling.{told_of};
-ghost use Rattle.saved_spec.specs.Basis.{basis_of};
+ghost use Rattle.project_check.specs.Loaded.{basis_of};
 ghost use Rattle.saved_spec.specs.Refusals as refusals;
 ghost use Rattle.run_save.specs.Steps.{IsOf, Keeps, Parses, Shapes, Tells};
 

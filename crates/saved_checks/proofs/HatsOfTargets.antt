@@ -14,9 +14,9 @@ use Rattle.project_spec.specs.declared.blocks.Block.{Block}
 use Rattle.project_spec.specs.Linked.{has_role, is_head}
 use Rattle.project_spec.specs.Trees.{op_by, head_of, scripts_of, sheet_of, sheets}
 use Rattle.project_check.specs.declared.project.Project.{Project}
-use Rattle.project_check.specs.Loaded.{tables_of, names_of, program_of, blocks_at, sheet_at}
+use Rattle.project_check.specs.Loaded.{tables_of, names_of, program_of, blocks_at, sheet_at, basis_of}
 use Rattle.project_check.proofs.Defining.{scripts_here}
-use Rattle.saved_spec.specs.Basis.{basis_of, is_hat, is_edge, is_edge_head}
+use Rattle.project_spec.specs.Basis.{is_hat, is_edge, is_edge_head}
 use Rattle.saved_checks.proofs.HatBlocks.{hat-of-block}
 
 length-numbered : {A : Type 0} (n : ℕ) (xs : List A) → length (enumerate_from n xs) ≡ length xs

@@ -8,9 +8,9 @@ use Rattle.std.proofs.lemmas.List.{reverse-append}
 use Rattle.std.proofs.lemmas.List.Folds.{list_all-map, list_all-append}
 use Rattle.machine_spec.specs.declared.variables.Store.{Store}
 use Rattle.machine_spec.specs.Program.{record_at}
-use Rattle.machine_spec.specs.Stores.{store_at, is_on_stage}
+use Rattle.machine_spec.specs.Stores.{is_original, store_at, is_on_stage}
 use Rattle.saved_spec.specs.RunShapes.{store_among, stores_in_order}
-use Rattle.saved_spec.specs.Basis.{Basis, records_of}
+use Rattle.project_spec.specs.Basis.{Basis, records_of}
 use Rattle.saved_spec.specs.Rules as rules
 use Rattle.saved_spec.specs.Rules.{differ}
 use Rattle.saved_checks.specs.Originals.{originals_of}
@@ -115,7 +115,7 @@ module _ (b : Basis) (r : ToldRun) (is : List ToldInstance) where
       → x ≡ list_all (λ k. originals_of k is == 1) (range_with_len 0 n) → x ≡ rules.originals_are_there b (told_of r)
   originals-told n x e f h =
       let each : rules.originals_are_there b (told_of r) ≡ list_all (λ k. originals_of k r.instances == 1) (range_with_len 0 (length (records_of b).targets))
-      = λ j. list_all (λ k. filter-told (λ i. i.of == k && rules.is_original i) instance_of r.instances j == 1) (range_with_len 0 (length (records_of b).targets)) in
+      = λ j. list_all (λ k. filter-told (λ i. i.of == k && is_original i) instance_of r.instances j == 1) (range_with_len 0 (length (records_of b).targets)) in
       h ∙ (λ j. list_all (λ k. originals_of k (e j) == 1) (range_with_len 0 (f j))) ∙ sym each
 
   pub numbers-told : (x : Bool) → is ≡ r.instances
@@ -126,7 +126,7 @@ module _ (b : Basis) (r : ToldRun) (is : List ToldInstance) where
       let each : rules.clones_are_sprites b (told_of r)
       ≡ (list_all (λ i. ((i.number == i.of) && nat_lt i.of (length (records_of b).targets)) || (rules.is_sprite b i.of && nat_le (length (records_of b).targets) i.number && nat_lt i.number r.next.instance)) r.instances
       && differ (map (λ i. i.number) r.instances))
-      = λ j. list_all-map (λ i. (rules.is_original i && nat_lt i.of (length (records_of b).targets)) || rules.is_clone b (told_of r) i) instance_of r.instances j
+      = λ j. list_all-map (λ i. (is_original i && nat_lt i.of (length (records_of b).targets)) || rules.is_clone b (told_of r) i) instance_of r.instances j
       && differ (map-map (λ i. i.number) instance_of r.instances j) in
       h ∙ (λ j. list_all (λ i. ((i.number == i.of) && nat_lt i.of (length (records_of b).targets)) || (rules.is_sprite b i.of && nat_le (length (records_of b).targets) i.number && nat_lt i.number r.next.instance)) (e j)
       && differ (map (λ i. i.number) (e j))) ∙ sym each
@@ -134,4 +134,4 @@ module _ (b : Basis) (r : ToldRun) (is : List ToldInstance) where
 pub clones-told : (r : ToldRun) (is : List ToldInstance) (x : Bool) → is ≡ r.instances → x ≡ nat_le (length (filter (λ i. not (i.number == i.of)) is)) 300 → x ≡ rules.clones_are_few (told_of r)
 clones-told r is x e h =
     h ∙ ap (λ js. nat_le (length (filter (λ i. not (i.number == i.of)) js)) 300) e
-    ∙ ap (λ n. nat_le n 300) (sym (filter-told (λ i. not (rules.is_original i)) instance_of r.instances))
+    ∙ ap (λ n. nat_le n 300) (sym (filter-told (λ i. not (is_original i)) instance_of r.instances))

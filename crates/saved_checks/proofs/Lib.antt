@@ -1,5 +1,4 @@
 pub mod Fresh
-pub mod OneKey
 pub mod Characters
 pub mod Lives
 pub mod Counts

@@ -9,7 +9,7 @@ use Rattle.std.proofs.lemmas.List.Folds.{list_all-map}
 use Rattle.machine_spec.specs.declared.variables.Store.{Store}
 use Rattle.machine_spec.specs.Program.{record_at}
 use Rattle.machine_spec.specs.Stores.{store_at}
-use Rattle.saved_spec.specs.Basis.{Basis, records_of}
+use Rattle.project_spec.specs.Basis.{Basis, records_of}
 use Rattle.saved_spec.specs.RunShapes.{stores_in_order}
 use Rattle.saved_spec.specs.Rules as rules
 use Rattle.saved_spec.specs.Rules.{differ}

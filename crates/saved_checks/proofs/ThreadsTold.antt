@@ -9,7 +9,7 @@ use Rattle.machine_spec.specs.declared.devices.BubbleTimer.{BubbleTimer}
 use Rattle.machine_spec.specs.Outcome.{most_levels}
 use Rattle.machine_spec.specs.Stores as stores
 use Rattle.machine_spec.specs.Stores.{instance_at, no_instance}
-use Rattle.saved_spec.specs.Basis.{Basis, blocks_of, is_hat}
+use Rattle.project_spec.specs.Basis.{Basis, blocks_of, is_hat}
 use Rattle.saved_spec.specs.Rules as rules
 use Rattle.saved_spec.specs.Rules.{differ, is_in_target}
 use Rattle.saved_parts.specs.declared.instances.ToldInstance.{ToldInstance}

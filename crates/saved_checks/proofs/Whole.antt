@@ -7,7 +7,7 @@ use Rattle.std.proofs.lemmas.Bool.{and_parts}
 use Rattle.std.proofs.lemmas.List.Folds.{find-append}
 use Rattle.saved_parts.specs.declared.run.ToldRun.{ToldRun}
 use Rattle.saved_parts.specs.Telling.{instance_of, told_of}
-use Rattle.saved_spec.specs.Basis.{Basis}
+use Rattle.project_spec.specs.Basis.{Basis}
 use Rattle.saved_spec.specs.RunShapes.{Told}
 use Rattle.saved_spec.specs.Rules as all
 use Rattle.saved_spec.specs.Rules.{Rule, rule, rules, broken, differ}

@@ -1,7 +1,7 @@
 -- The rules of saved runs in five groups, in their order.
 use Rattle.std.specs.Borrow.{Bor}
 use Rattle.std.specs.Prelude.{ℕ, Bool, not, List, [], ◌∷◌, find, codes, Option, option_map}
-use Rattle.saved_spec.specs.Basis.{Basis}
+use Rattle.project_spec.specs.Basis.{Basis}
 use Rattle.saved_spec.specs.RunShapes.{Told}
 use Rattle.saved_spec.specs.Rules
 use Rattle.saved_spec.specs.Rules.{Rule, rule}

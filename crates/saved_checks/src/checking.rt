@@ -3,7 +3,7 @@
 ghost use Rattle.std.specs.Prelude.{◌≡◌, IfOk};
 ghost use Rattle.std.specs.Option.{option_copied};
 ghost use Rattle.saved_parts.specs.Telling.{told_of};
-ghost use Rattle.saved_spec.specs.Basis.{basis_of};
+ghost use Rattle.project_check.specs.Loaded.{basis_of};
 ghost use Rattle.saved_spec.specs.Rules.{broken};
 
 use crate::groups::{of_devices, of_instances, of_standing, of_texts, of_threads};

@@ -5,14 +5,12 @@ ghost use Rattle.std.specs.List.{list_all, sum_by};
 ghost use Rattle.machine_spec.specs.Outcome.{most_levels};
 ghost use Rattle.saved_spec.specs.Rules as rules;
 
-use machine_spec::BubbleTimer;
+use machine_spec::{BubbleTimer, MOST_LEVELS};
 use saved_parts::{ToldInstance, ToldThread};
 
 const LAST_NEXT: u64 = 4_611_686_018_427_387_904;
 
 const MOST_CLONES: usize = 300;
-
-const MOST_LEVELS: usize = 65_536;
 
 // Whether a number may be the next that is given.
 pub(crate) fn is_next(number: u64) -> bool

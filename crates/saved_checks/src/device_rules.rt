@@ -2,7 +2,8 @@
 
 ghost use Rattle.std.specs.Prelude.{◌≡◌, ◌&&◌, length, nat_le, unsigned_abs, IfOk};
 ghost use Rattle.std.specs.List.{list_all};
-ghost use Rattle.saved_spec.specs.Basis.{basis_of, records_of};
+ghost use Rattle.project_check.specs.Loaded.{basis_of};
+ghost use Rattle.project_spec.specs.Basis.{records_of};
 ghost use Rattle.saved_spec.specs.Rules as rules;
 
 use crate::counting::is_next;

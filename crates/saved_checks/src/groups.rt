@@ -3,7 +3,7 @@
 ghost use Rattle.std.specs.Prelude.{◌≡◌, map, true, IfOk};
 ghost use Rattle.std.specs.Option.{option_copied};
 ghost use Rattle.saved_parts.specs.Telling.{told_of};
-ghost use Rattle.saved_spec.specs.Basis.{basis_of};
+ghost use Rattle.project_check.specs.Loaded.{basis_of};
 ghost use Rattle.saved_spec.specs.Rules.{differ};
 ghost use Rattle.saved_checks.specs.Groups as group;
 ghost use Rattle.saved_checks.specs.Groups.{broken_in};

@@ -7,13 +7,12 @@ ghost use Rattle.machine_spec.specs.BubbleText.{most_characters};
 ghost use Rattle.saved_parts.specs.Telling.{value_of};
 ghost use Rattle.saved_spec.specs.Rules as rules;
 
+use machine_spec::MOST_ITEMS;
 use project_json::Text;
 use saved_parts::{ToldInstance, ToldQuestion, ToldValue, ToldValues};
 use scratch_values::LONGEST;
 
 const MOST_CHARACTERS: usize = 330;
-
-const MOST_ITEMS: usize = 200_000;
 
 // Whether a text is one that a value may be.
 pub(crate) fn is_value_text(text: &Text) -> bool

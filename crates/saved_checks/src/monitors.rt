@@ -3,7 +3,7 @@
 ghost use Rattle.std.specs.Prelude.{◌≡◌};
 ghost use Rattle.std.specs.List.{list_all};
 ghost use Rattle.saved_parts.specs.Telling.{made_of};
-ghost use Rattle.saved_spec.specs.Basis.{basis_of};
+ghost use Rattle.project_check.specs.Loaded.{basis_of};
 ghost use Rattle.saved_spec.specs.Rules as rules;
 
 use crate::project_parts::{lists, variables};

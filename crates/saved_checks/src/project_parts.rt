@@ -3,12 +3,12 @@
 ghost use Rattle.std.specs.Prelude.{◌≡◌, length, slice_get};
 ghost use Rattle.std.specs.Option.{option_copied};
 ghost use Rattle.machine_spec.specs.Program.{record_at};
-ghost use Rattle.project_check.specs.Loaded.{blocks_at};
-ghost use Rattle.saved_spec.specs.Basis as basis;
-ghost use Rattle.saved_spec.specs.Basis.{basis_of, blocks_of, records_of};
+ghost use Rattle.project_check.specs.Loaded.{blocks_at, basis_of};
+ghost use Rattle.project_spec.specs.Basis as basis;
+ghost use Rattle.project_spec.specs.Basis.{blocks_of, records_of};
 ghost use Rattle.saved_spec.specs.Rules.{is_sprite};
 
-use crate::hat_blocks::{heads_edge_script, heads_script};
+use crate::hat_blocks::heads_edge_script;
 use machine_spec::{TargetId, TargetRecord};
 use project_check::Project;
 use project_spec::Block;
@@ -114,7 +114,7 @@ pub(crate) fn is_hat(project: &Project, target: u64, number: u64) -> bool
     ensures { result ≡ basis.is_hat target number (basis_of project.now) }
 {
     match block(project, target, number) {
-        Some(block) => heads_script(block),
+        Some(block) => block_table::is_hat(block),
         None => false,
     }
 }

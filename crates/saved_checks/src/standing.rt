@@ -4,8 +4,9 @@ ghost use Rattle.std.specs.Prelude.{◌≡◌, ◌==◌, ◌&&◌, ◌||◌, fal
 ghost use Rattle.std.specs.List.{list_all};
 ghost use Rattle.std.specs.Option.{option_map_or};
 ghost use Rattle.machine_spec.specs.Program.{record_at};
-ghost use Rattle.saved_spec.specs.Basis as basis;
-ghost use Rattle.saved_spec.specs.Basis.{basis_of, records_of};
+ghost use Rattle.project_spec.specs.Basis as basis;
+ghost use Rattle.project_check.specs.Loaded.{basis_of};
+ghost use Rattle.project_spec.specs.Basis.{records_of};
 ghost use Rattle.saved_spec.specs.Rules as rules;
 ghost use Rattle.saved_parts.specs.Telling.{instance_of};
 

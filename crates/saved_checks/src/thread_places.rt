@@ -3,8 +3,9 @@
 ghost use Rattle.std.specs.Prelude.{◌≡◌, ◌&&◌, true, is_some, map, nat_lt, unwrap_or, IfOk};
 ghost use Rattle.std.specs.List.{list_all};
 ghost use Rattle.std.specs.Option.{option_map_or};
-ghost use Rattle.saved_spec.specs.Basis as basis;
-ghost use Rattle.saved_spec.specs.Basis.{basis_of, blocks_of};
+ghost use Rattle.project_spec.specs.Basis as basis;
+ghost use Rattle.project_check.specs.Loaded.{basis_of};
+ghost use Rattle.project_spec.specs.Basis.{blocks_of};
 ghost use Rattle.saved_spec.specs.Rules as rules;
 ghost use Rattle.saved_checks.specs.Live.{target_in};
 

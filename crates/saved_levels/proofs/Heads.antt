@@ -11,9 +11,9 @@ use Rattle.project_spec.specs.declared.blocks.Block.{Block}
 use Rattle.project_spec.specs.Linked.{has_role, is_head}
 use Rattle.project_spec.specs.Trees.{Sheet, head_of, hat_at, heads_of, scripts_of, sheet_of, sheets, script, target_of_link}
 use Rattle.project_check.specs.declared.project.Project.{Project}
-use Rattle.project_check.specs.Loaded.{tables_of, names_of, sheet_at, program_of, blocks_at}
+use Rattle.project_check.specs.Loaded.{tables_of, names_of, sheet_at, program_of, blocks_at, basis_of}
 use Rattle.project_check.proofs.Defining.{scripts_here}
-use Rattle.saved_spec.specs.Basis.{basis_of, script_under}
+use Rattle.project_spec.specs.Basis.{script_under}
 
 module _ (sheet : Sheet) (k : ℕ) where
   abbrev found : List Head → Option Head

@@ -13,7 +13,7 @@ use Rattle.machine_spec.specs.Threads.{Params}
 use Rattle.thread_frames.specs.Reading.{first_by, marker_by}
 use Rattle.saved_spec.specs.Kept.{Kept, Nothing, Loop, Repeat, Wait, Glide, Started, Asked, Spoken, Call}
 use Rattle.saved_spec.specs.Levels.{top_item, marker_of}
-use Rattle.saved_spec.specs.Threads.{first_fits, marker_fits}
+use Rattle.saved_spec.specs.ThreadRules.{first_fits, marker_fits}
 use Rattle.saved_levels.specs.Making.{loop_in, context_in, params_in, keeps_under, keeps_first}
 use Rattle.saved_levels.specs.Standing.{fitting}
 

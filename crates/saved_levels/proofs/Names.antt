@@ -5,7 +5,7 @@ use Rattle.std.proofs.lemmas.List.{drop_more}
 use Rattle.std.specs.List.{list_any}
 use Rattle.std.proofs.lemmas.Slice.Eq.{bytes_eq-Decides}
 use Rattle.machine_spec.specs.Legal.{with_name, distinct_after}
-use Rattle.saved_spec.specs.Threads.{same_texts}
+use Rattle.saved_spec.specs.ThreadRules.{same_texts}
 use Rattle.saved_levels.specs.Naming.{has_at}
 use Rattle.saved_levels.proofs.Together.{and_false}
 

@@ -13,18 +13,18 @@ use Rattle.machine_spec.specs.Program.{Program}
 use Rattle.machine_spec.specs.Script.{Script, End, Then, Statement}
 use Rattle.machine_spec.specs.Stores.{Devices}
 use Rattle.project_check.specs.declared.project.Project.{Project}
-use Rattle.project_check.specs.Loaded.{program_of, sheet_at}
+use Rattle.project_check.specs.Loaded.{program_of, sheet_at, basis_of}
 use Rattle.thread_frames.specs.declared.level.Level.{Level}
 use Rattle.thread_frames.specs.Levels.{new_level}
 use Rattle.thread_frames.specs.Fit.{IsAtRest}
 use Rattle.thread_frames.specs.Reading.{pending}
-use Rattle.saved_spec.specs.Basis.{basis_of, script_under}
+use Rattle.project_spec.specs.Basis.{script_under}
 use Rattle.saved_spec.specs.Kept.{Kept, Nothing, Loop, Repeat, Wait, Glide, Started, Asked, Spoken, Call, SavedLevel, SavedThread, thread_told}
 use Rattle.saved_spec.specs.Legal.{StandsIn, IsLegalThread}
 use Rattle.saved_spec.specs.Levels.{script_among, in_front, level_on, items_under, nothing_left, top_item, items_of, left_of, thread_is_well}
 use Rattle.saved_spec.specs.Rules.{target_of}
 use Rattle.saved_spec.specs.RunShapes.{Told}
-use Rattle.saved_spec.specs.Threads.{is_asked, is_spoken, items_fit, status_fits, promises_fit, stands_well}
+use Rattle.saved_spec.specs.ThreadRules.{is_asked, is_spoken, items_fit, status_fits, promises_fit, stands_well}
 use Rattle.saved_spec.proofs.Standing.{reads}
 use Rattle.saved_levels.specs.declared.floors.Site.{Site}
 use Rattle.saved_levels.specs.declared.waiting.Waiting.{Waiting}

@@ -15,7 +15,7 @@ use Rattle.thread_frames.specs.Fit.{kind_of, top_at}
 use Rattle.thread_frames.specs.Reading.{block_items, items_at, marker, first_item}
 use Rattle.saved_spec.specs.Kept.{Kept}
 use Rattle.saved_spec.specs.Levels.{script_among, in_front, marker_of, top_item}
-use Rattle.saved_spec.specs.Threads.{marker_fits}
+use Rattle.saved_spec.specs.ThreadRules.{marker_fits}
 use Rattle.saved_levels.specs.declared.floors.Floor.{Floor}
 use Rattle.saved_levels.specs.declared.floors.Site.{Site}
 use Rattle.saved_levels.specs.Making.{called_at, level_made, loop_in, context_in, keeps_under, keeps_first}

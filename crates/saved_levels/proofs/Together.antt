@@ -12,7 +12,7 @@ use Rattle.thread_frames.specs.Fit.{AllUnder}
 use Rattle.thread_frames.specs.Reading.{beneath}
 use Rattle.saved_spec.specs.Kept.{Kept, SavedLevel}
 use Rattle.saved_spec.specs.Levels.{script_among, in_front, level_on, marker_of, marker_on, items_under, top_item, items_of}
-use Rattle.saved_spec.specs.Threads.{marker_fits, items_fit, first_fits}
+use Rattle.saved_spec.specs.ThreadRules.{marker_fits, items_fit, first_fits}
 use Rattle.saved_levels.specs.declared.floors.Site.{Site}
 use Rattle.saved_levels.specs.Making.{is_short_level}
 use Rattle.saved_levels.specs.Standing.{fitting, fit_on, fit_from, fitting_first, first_on, sheet_of, program_in, hat_of, Stacks, AreStacked, StacksAll, Tops, whole_of, AreWhole}

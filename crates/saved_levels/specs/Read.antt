@@ -3,12 +3,11 @@ use Rattle.std.specs.Prelude.{◌≡◌, ℕ, true, false, List, length, reverse
 use Rattle.std.specs.declared.alloc.Global.{Global}
 use Rattle.machine_spec.specs.Tasks.{Task}
 use Rattle.project_check.specs.declared.project.Project.{Project}
-use Rattle.project_check.specs.Loaded.{sheet_at}
+use Rattle.project_check.specs.Loaded.{sheet_at, basis_of}
 use Rattle.thread_frames.specs.declared.level.Level.{Level}
 use Rattle.thread_frames.specs.Levels.{warp_flag}
 use Rattle.thread_frames.specs.Fit.{IsAtRest}
 use Rattle.thread_frames.specs.Reading.{pending}
-use Rattle.saved_spec.specs.Basis.{basis_of}
 use Rattle.saved_spec.specs.Kept.{SavedThread, thread_told}
 use Rattle.saved_spec.specs.Legal.{IsLegalThread}
 use Rattle.saved_spec.specs.Levels.{left_of, thread_is_well}

@@ -18,7 +18,7 @@ use Rattle.thread_frames.specs.Fit.{kind_of, IsUnder, AllUnder, IsTop, IsAtRest}
 use Rattle.thread_frames.specs.Reading.{marker, first_item, items_at, beneath, pending}
 use Rattle.saved_spec.specs.Kept.{Kept, SavedLevel}
 use Rattle.saved_spec.specs.Levels.{script_among, level_on, marker_on, top_item, items_of}
-use Rattle.saved_spec.specs.Threads.{marker_fits, items_fit, stands_well}
+use Rattle.saved_spec.specs.ThreadRules.{marker_fits, items_fit, stands_well}
 use Rattle.saved_levels.specs.declared.floors.Floor.{Floor}
 use Rattle.saved_levels.specs.declared.floors.Site.{Site}
 use Rattle.saved_levels.specs.declared.waiting.Waiting.{Waiting}

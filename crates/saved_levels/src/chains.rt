@@ -8,21 +8,12 @@ ghost use Rattle.project_spec.specs.Trees.{branch_by, script, target_of_link};
 ghost use Rattle.saved_spec.specs.Levels.{script_from, script_among};
 ghost use Rattle.saved_levels.specs.Found.{Finds, scripts_in, scripts_under};
 
+use block_table::is_branch;
+use cached_blocks::{first_of, linked};
 use machine_spec::{BlockId, TargetId};
 use project_check::Project;
 use project_json::Text;
-use project_spec::{Block, Input, Link};
-
-// The block to which a link leads.
-pub(crate) fn linked(link: &Option<Link>) -> Option<BlockId>
-    ensures { result ≡ target_of_link link.now }
-{
-    match link {
-        Some(Link::To(id)) => Some(*id),
-        Some(Link::Unknown(_)) => None,
-        None => None,
-    }
-}
+use project_spec::{Block, Input};
 
 // A block of a target, where it is there. A rank falls along every link.
 fn ranked(project: &Project, target: TargetId, id: BlockId) -> Option<&Block>
@@ -61,27 +52,6 @@ pub(crate) fn in_chain(
         at = linked(&block.next);
     }
     None
-}
-
-// Whether an input of the name is a branch.
-fn is_branch(name: &str) -> bool
-    ensures { result ≡ is_branch name.now }
-{
-    name.as_bytes().starts_with(b"SUBSTACK")
-}
-
-// The block with which a branch begins.
-fn first_of(input: &Input) -> Option<BlockId>
-    ensures { (name : List ℕ) → branch_by name input.now ≡ (name, result) }
-{
-    match input {
-        Input::Reporter(Link::To(id)) => Some(*id),
-        Input::Reporter(Link::Unknown(_)) => None,
-        Input::Literal(_) => None,
-        Input::Variable(_) => None,
-        Input::List(_) => None,
-        Input::Absent => None,
-    }
 }
 
 // The block of a number in an input that is a branch.

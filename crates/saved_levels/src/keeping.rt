@@ -5,7 +5,7 @@ ghost use Rattle.project_check.specs.Loaded.{program_of};
 ghost use Rattle.machine_spec.specs.declared.threads.Context.TheVariants.{Fresh, Repeat, Wait, Glide, Started, Asked, Spoken};
 ghost use Rattle.machine_spec.specs.Keeping.{is_left};
 ghost use Rattle.saved_parts.specs.Telling.{kept_of};
-ghost use Rattle.saved_spec.specs.Threads.{is_above_zero, is_choice, is_from_zero, is_some_thread, loops_with, may_keep};
+ghost use Rattle.saved_spec.specs.ThreadRules.{is_above_zero, is_choice, is_from_zero, is_some_thread, loops_with, may_keep};
 ghost use Rattle.thread_frames.specs.Fit.{kind_of};
 ghost use Rattle.saved_levels.specs.Making.{called_at, keeps_first, keeps_under};
 

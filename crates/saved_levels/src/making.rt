@@ -7,25 +7,10 @@ ghost use Rattle.saved_spec.specs.Rules.{is_short, values_kept};
 ghost use Rattle.saved_levels.specs.Making.{level_made};
 
 use machine_spec::{BlockId, Boxed, Context, Serial, Serials};
-use saved_parts::{ToldKept, ToldParam, ToldParams, ToldSerials, ToldValue};
-use scratch_values::{BoundText, Params, Value};
+use saved_parts::{ToldKept, ToldParam, ToldParams, ToldSerials, value};
+use scratch_values::Params;
 use std::alloc::{AllocError, Global};
 use thread_frames::Level;
-
-// A value whose text is not too long.
-fn value(alloc: Global, told: ToldValue) -> Result<Value, AllocError>
-    requires { is_short (value_of told) ≡ true }
-    ensures { IfOk result (λ v. v ≡ value_of told) }
-{
-    match told {
-        ToldValue::Number(number) => Ok(Value::Number(number)),
-        ToldValue::Truth(truth) => Ok(Value::Truth(truth)),
-        ToldValue::Text(text) => {
-            let text = BoundText::from_short(alloc, text)?;
-            Ok(Value::Text(text))
-        }
-    }
-}
 
 // One parameter more.
 fn push(alloc: Global, params: &mut Params, told: ToldParam) -> Result<(), AllocError>

@@ -5,7 +5,7 @@ ghost use Rattle.std.specs.List.{list_any};
 ghost use Rattle.project_check.specs.Loaded.{program_of};
 ghost use Rattle.machine_spec.specs.Legal.{distinct};
 ghost use Rattle.saved_parts.specs.Telling.{param_of};
-ghost use Rattle.saved_spec.specs.Threads.{has_names, same_texts};
+ghost use Rattle.saved_spec.specs.ThreadRules.{has_names, same_texts};
 ghost use Rattle.saved_levels.specs.Making.{called_at};
 ghost use Rattle.saved_levels.specs.Naming.{has_at};
 

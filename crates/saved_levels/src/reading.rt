@@ -3,13 +3,11 @@
 ghost use Rattle.std.specs.Prelude.{◌≡◌, ◌<◌, ◌+◌, ◌^◌, ◌&&◌, [], ◌∷◌, Some, None, true, false, if◌then◌else◌, is_some, length, map, reverse, slice_get, IfOk};
 ghost use Rattle.std.specs.List.{list_all};
 ghost use Rattle.std.specs.Option.{option_copied, option_map};
-ghost use Rattle.project_check.specs.Loaded.{blocks_at, sheet_at, tables_of};
-ghost use Rattle.opcode_table.specs.declared.shape.Role.TheVariants as role;
-ghost use Rattle.project_spec.specs.Linked.{has_role, is_head};
+ghost use Rattle.project_check.specs.Loaded.{blocks_at, sheet_at, tables_of, basis_of};
 ghost use Rattle.project_spec.specs.Trees.{script, target_of_link};
 ghost use Rattle.thread_frames.specs.Levels.{new_level};
 ghost use Rattle.saved_parts.specs.Telling.{kept_of, level_of, thread_of};
-ghost use Rattle.saved_spec.specs.Basis.{basis_of, script_under};
+ghost use Rattle.project_spec.specs.Basis.{script_under};
 ghost use Rattle.saved_spec.specs.Rules.{is_short, target_of, values_kept};
 ghost use Rattle.saved_spec.specs.RunShapes.{Told};
 ghost use Rattle.saved_levels.specs.Making.{is_short_level, keeps_nothing};
@@ -17,42 +15,18 @@ ghost use Rattle.saved_levels.specs.Read.{IsRead, top_first};
 ghost use Rattle.saved_levels.specs.Standing.{Places, Wholes, whole_of};
 ghost use Rattle.saved_levels.specs.Waits.{TellsOf};
 
-use crate::chains::linked;
 use crate::floors::{Site, floor_on};
 use crate::making::level;
 use crate::stacking::{all_stacked, topped};
 use crate::waiting::Waiting;
+use block_table::is_hat;
+use cached_blocks::linked;
 use machine_spec::{Status, TargetId};
-use opcode_table::{Role, spec};
 use project_check::Project;
-use project_spec::{Block, Code};
+use project_spec::Block;
 use saved_parts::{ToldKept, ToldLevel, ToldThread};
 use std::alloc::{AllocError, Global};
 use thread_frames::Level;
-
-// Whether an opcode is that of a hat.
-fn is_hat(code: &Code) -> bool
-    ensures { result ≡ has_role role.Hat code.now }
-{
-    match code {
-        Code::Known(op) => match spec(*op).role {
-            Role::Hat => true,
-            Role::Definition => false,
-            Role::Prototype => false,
-            Role::Command => false,
-            Role::Reporter => false,
-        },
-        Code::Other(_) => false,
-    }
-}
-
-// Whether a block is a hat that heads a script.
-fn heads(block: &Block) -> bool
-    ensures { result ≡ (is_head block.now && has_role role.Hat block.now.code) }
-{
-    let is_hat = is_hat(&block.code);
-    block.top_level && is_hat
-}
 
 // The block of a number in a target.
 fn block(project: &Project, target: TargetId, number: u64) -> Option<&Block>
@@ -75,7 +49,7 @@ fn hat(project: &Project, target: TargetId, number: u64) -> Option<&Block>
         return None;
     }
     match block(project, target, number) {
-        Some(block) => { if heads(block) { Some(block) } else { None } }
+        Some(block) => { if is_hat(block) { Some(block) } else { None } }
         None => None,
     }
 }

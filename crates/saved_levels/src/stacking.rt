@@ -7,7 +7,7 @@ ghost use Rattle.project_check.specs.Loaded.{tables_of};
 ghost use Rattle.machine_spec.specs.Pending.{Item};
 ghost use Rattle.saved_parts.specs.Telling.{kept_of, level_of};
 ghost use Rattle.saved_spec.specs.Rules.{is_short, values_kept};
-ghost use Rattle.saved_spec.specs.Threads.{marker_fits};
+ghost use Rattle.saved_spec.specs.ThreadRules.{marker_fits};
 ghost use Rattle.saved_levels.specs.Making.{is_short_level, keeps_first, keeps_under};
 ghost use Rattle.saved_levels.specs.Standing.{FindsKept, IsFloor, Stacks, StacksAll, Tops, hat_of, program_in, sheet_of};
 

@@ -15,4 +15,4 @@ pub use run::{
 pub use threads::{
     ToldKept, ToldLevel, ToldLevels, ToldParam, ToldParams, ToldSerials, ToldThread, ToldThreads,
 };
-pub use values::{ToldLists, ToldValue, ToldValues};
+pub use values::{ToldLists, ToldValue, ToldValues, value};

@@ -5,13 +5,13 @@ use Rattle.machine_spec.specs.Legal.{warp_on}
 use Rattle.machine_spec.specs.Pending.{Item}
 use Rattle.machine_spec.specs.Script.{Script}
 use Rattle.machine_spec.specs.Tasks.{Task}
-use Rattle.saved_spec.specs.Basis.{Basis, script_under}
+use Rattle.project_spec.specs.Basis.{Basis, script_under}
 use Rattle.saved_spec.specs.Kept.{SavedThread, thread_told}
 use Rattle.saved_spec.specs.Legal.{IsLegalThread}
 use Rattle.saved_spec.specs.Levels.{items_of, thread_is_well}
 use Rattle.saved_spec.specs.Rules.{target_of}
 use Rattle.saved_spec.specs.RunShapes.{Told}
-use Rattle.saved_spec.specs.Threads.{stands_well}
+use Rattle.saved_spec.specs.ThreadRules.{stands_well}
 use Rattle.saved_spec.proofs.Standing.{reads}
 
 abbrev OfMachine : Basis → Told → SavedThread → Type 0

@@ -12,11 +12,11 @@ use Rattle.machine_spec.specs.Legal.{EndOf, EndOfOne, Stands, script_of, scripts
 use Rattle.machine_spec.specs.Pending.{Item, Do, Held, Returned, Branch, Again, Back, dos}
 use Rattle.machine_spec.specs.Program.{Program}
 use Rattle.machine_spec.specs.Script.{Script, End, Then, Statement, place_of, op_of}
-use Rattle.saved_text.specs.Tasks.{is_marker}
+use Rattle.saved_spec.specs.Tasks.{is_marker}
 use Rattle.saved_spec.specs.Kept.{Kept, Nothing, Call, kept_of, level_at, level_of, levels_of}
 use Rattle.saved_spec.specs.Legal.{AllStand, StandsIn, BlocksAgree}
 use Rattle.saved_spec.specs.Levels.{script_from, script_among, top_item, marker_of, in_front, level_on, marker_on, items_under, items_of}
-use Rattle.saved_spec.specs.Threads.{loops_with, may_keep, first_fits, marker_fits, items_fit}
+use Rattle.saved_spec.specs.ThreadRules.{loops_with, may_keep, first_fits, marker_fits, items_fit}
 use Rattle.saved_spec.proofs.Standing.{among}
 
 -- Some chain has the block

@@ -14,14 +14,14 @@ use Rattle.machine_spec.specs.declared.threads.Status.TheVariants.{Running, Prom
 use Rattle.machine_spec.specs.Pending.{Do, Held, Branch, Again}
 use Rattle.machine_spec.specs.Program.{Program}
 use Rattle.machine_spec.specs.Script.{End, Then, Statement, Does, Branches, NoBranch, AndBranch, NoInput}
-use Rattle.saved_text.specs.Rows.{row, whole as whole_data, table}
+use Rattle.saved_spec.specs.Rows.{row, whole as whole_data, table}
 use Rattle.saved_spec.specs.Kept.{Kept, Nothing, Loop, SavedLevel}
 use Rattle.saved_spec.specs.Shapes as shapes
 use Rattle.saved_spec.specs.ThreadShapes as thread_shapes
 use Rattle.saved_spec.specs.InstanceShapes as instance_shapes
 use Rattle.saved_spec.specs.RunShapes as run_shapes
 use Rattle.saved_spec.specs.Rules.{is_key_name, is_between, is_due_time, is_next}
-use Rattle.saved_spec.specs.Threads.{may_keep, loops_with, status_fits}
+use Rattle.saved_spec.specs.ThreadRules.{may_keep, loops_with, status_fits}
 use Rattle.saved_spec.specs.Levels.{items_of}
 use Rattle.saved_spec.specs.Refusals.{other_version, first_difference}
 

@@ -6,7 +6,7 @@ use Rattle.machine_spec.specs.Legal.{EndOf, EndOfOne, Stands, script_of, scripts
 use Rattle.machine_spec.specs.Pending.{Item, dos}
 use Rattle.machine_spec.specs.Program.{Program}
 use Rattle.machine_spec.specs.Script.{Script, End, Then, Statement, place_of}
-use Rattle.saved_text.specs.Tasks.{is_marker}
+use Rattle.saved_spec.specs.Tasks.{is_marker}
 use Rattle.saved_spec.specs.Kept.{Kept, Nothing, Loop, Repeat, Wait, Glide, Started, Asked, Spoken, Call, SavedLevel, level_at, level_of, levels_of}
 use Rattle.saved_spec.specs.Legal.{StandsUnder, AllStand, StandsFirst, StandsIn}
 use Rattle.saved_spec.specs.Levels.{script_from, script_among, top_item, marker_of, in_front, level_on, marker_on, items_under, nothing_left, top_on, items_of}

@@ -5,11 +5,11 @@ use Rattle.machine_spec.specs.declared.threads.Context.{Context}
 use Rattle.machine_spec.specs.declared.threads.Context.TheVariants.{Fresh, Repeat, Wait, Glide, Started, Asked, Spoken, Called}
 use Rattle.machine_spec.specs.Pending.{Item, Do, Held, Returned, Branch, Again, Back}
 use Rattle.machine_spec.specs.Tasks.{Task}
-use Rattle.saved_text.specs.Contexts.{context}
-use Rattle.saved_text.specs.Rows.{row}
-use Rattle.saved_text.specs.Tasks as tasks
-use Rattle.saved_text.specs.Tasks.{is_marker}
-use Rattle.saved_text.specs.Threads.{thread_of}
+use Rattle.saved_spec.specs.Contexts.{context}
+use Rattle.saved_spec.specs.Rows.{row}
+use Rattle.saved_spec.specs.Tasks as tasks
+use Rattle.saved_spec.specs.Tasks.{is_marker}
+use Rattle.saved_spec.specs.Threads.{thread_of}
 use Rattle.saved_spec.specs.Kept as kept
 
 same_context : (c : Context) → kept.kept (kept.kept_of c) ≡ context true [] c

@@ -12,10 +12,10 @@ use Rattle.machine_spec.specs.Script.{Statement, place_of}
 use Rattle.machine_spec.specs.Threads.{Params}
 use Rattle.machine_spec.specs.Pending.{Item, Do, Held, Returned, Branch, Again, Back}
 use Rattle.machine_spec.specs.Tasks.{Task}
-use Rattle.saved_text.specs.Rows.{row, word_row, each}
-use Rattle.saved_text.specs.Contexts as contexts
-use Rattle.saved_text.specs.Tasks.{is_marker}
-use Rattle.saved_text.specs.Threads.{block, thread_of}
+use Rattle.saved_spec.specs.Rows.{row, word_row, each}
+use Rattle.saved_spec.specs.Contexts as contexts
+use Rattle.saved_spec.specs.Tasks.{is_marker}
+use Rattle.saved_spec.specs.Threads.{block, thread_of}
 
 -- what the block of a level keeps. `Nothing`: it was not executed, or it is a choice with an open branch. `Loop`: a loop
 -- that has no number of turns.

@@ -1,9 +1,9 @@
 -- Laws of the rules, as statements that public functions with empty bodies prove.
 use Rattle.std.specs.Prelude.{◌≡◌, ◌≢◌, true, ℕ, List, Result}
 use Rattle.machine_spec.specs.Tasks.{Task}
-use Rattle.saved_text.specs.Saved.{Snapshot, saved, saved_text}
-use Rattle.saved_text.specs.Tasks.{task}
-use Rattle.saved_spec.specs.Basis.{Basis}
+use Rattle.saved_spec.specs.Saved.{Snapshot, saved, saved_text}
+use Rattle.saved_spec.specs.Tasks.{task}
+use Rattle.project_spec.specs.Basis.{Basis}
 use Rattle.saved_spec.specs.Kept.{SavedThread, thread, thread_told}
 use Rattle.saved_spec.specs.Legal.{told, IsLegalThread, BlocksAgree}
 use Rattle.saved_spec.specs.Levels.{thread_is_well}

@@ -8,11 +8,11 @@ use Rattle.machine_spec.specs.Script.{Script, Then, Statement, place_of}
 use Rattle.machine_spec.specs.declared.instance.Instance.{Instance}
 use Rattle.machine_spec.specs.Stores.{Devices, instance_at}
 use Rattle.machine_spec.specs.Tasks.{Task}
-use Rattle.saved_text.specs.Saved.{Snapshot}
-use Rattle.saved_spec.specs.Basis.{Basis, script_under}
+use Rattle.saved_spec.specs.Saved.{Snapshot}
+use Rattle.project_spec.specs.Basis.{Basis, script_under}
 use Rattle.saved_spec.specs.Kept.{thread_told}
 use Rattle.saved_spec.specs.RunShapes.{Told}
-use Rattle.saved_spec.specs.Threads.{stands_well}
+use Rattle.saved_spec.specs.ThreadRules.{stands_well}
 
 -- the same run with other threads
 abbrev pub with_threads : {A B : Type 0} → List B → Snapshot A → Snapshot B

@@ -6,11 +6,11 @@ use Rattle.machine_spec.specs.Legal.{scripts_on, warp_on}
 use Rattle.machine_spec.specs.Pending.{Item, Do, Held, Returned, Branch, Again, Back, dos}
 use Rattle.machine_spec.specs.Program.{Program}
 use Rattle.machine_spec.specs.Script.{Script, End, Then, Statement, place_of}
-use Rattle.saved_spec.specs.Basis.{Basis, script_under}
+use Rattle.project_spec.specs.Basis.{Basis, script_under}
 use Rattle.saved_spec.specs.Kept.{Kept, Nothing, Loop, Repeat, Wait, Glide, Started, Asked, Spoken, Call, SavedLevel, SavedThread}
 use Rattle.saved_spec.specs.RunShapes.{Told}
 use Rattle.saved_spec.specs.Rules.{target_of}
-use Rattle.saved_spec.specs.Threads.{stands_well}
+use Rattle.saved_spec.specs.ThreadRules.{stands_well}
 
 -- Chains of blocks
 

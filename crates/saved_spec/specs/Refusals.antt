@@ -6,8 +6,8 @@ use Rattle.hex.specs.Hex.{encode_lower}
 use Rattle.serde_json.specs.Data.{Data}
 use Rattle.serde_json.specs.Find.{get, as_number, as_u64}
 use Rattle.serde_json.specs.Read.{read}
-use Rattle.saved_text.specs.Saved.{saved_text, version}
-use Rattle.saved_spec.specs.Basis.{Basis}
+use Rattle.saved_spec.specs.Saved.{saved_text, version}
+use Rattle.project_spec.specs.Basis.{Basis}
 use Rattle.saved_spec.specs.Kept.{thread}
 use Rattle.saved_spec.specs.Levels.{bad_thread}
 use Rattle.saved_spec.specs.Rules.{broken}

@@ -1,5 +1,5 @@
 -- The rules on what a saved run says of itself and of its project (docs/formats.md, section 5), each a test of what its
--- text tells. What each thread has still to do has rules of its own, in Threads.antt.
+-- text tells. What each thread has still to do has rules of its own, in ThreadRules.antt.
 use Rattle.std.specs.Prelude.{ℕ, ◌^◌, ◌==◌, nat_le, nat_lt, ℤ, pos, negsuc, int_le, unsigned_abs, List, [], ◌∷◌, length, map, filter, find, sum_by, slice_get, bytes_eq, codes, Bool, true, false, not, ◌&&◌, ◌||◌, Option, is_some, option_map}
 use Rattle.std.specs.List.{list_any, list_all, range_with_len}
 use Rattle.std.specs.Option.{option_map_or}
@@ -19,9 +19,9 @@ use Rattle.machine_spec.specs.Line.{key_name}
 use Rattle.machine_spec.specs.Outcome.{most_levels}
 use Rattle.machine_spec.specs.Program.{record_at}
 use Rattle.machine_spec.specs.ScriptText.{key_of_rest}
-use Rattle.machine_spec.specs.Stores.{live, instance_at, record_of, is_on_stage, store_at}
+use Rattle.machine_spec.specs.Stores.{is_original, live, instance_at, record_of, is_on_stage, store_at}
 use Rattle.machine_spec.specs.declared.variables.Shown.TheVariants.{Variable, List as Items}
-use Rattle.saved_spec.specs.Basis.{Basis, records_of, blocks_of, is_hat, is_edge}
+use Rattle.project_spec.specs.Basis.{Basis, records_of, blocks_of, is_hat, is_edge}
 use Rattle.saved_spec.specs.Kept.{Kept, Started, Call, SavedLevel, SavedThread}
 use Rattle.saved_spec.specs.RunShapes.{Told}
 
@@ -103,10 +103,6 @@ monitors_are_counted b t = length t.run.variables.file_monitors == length (recor
 -- the first instance is the stage
 abbrev pub stage_is_first : Basis → Told → Bool
 stage_is_first b t = option_map_or (λ i. is_on_stage i (records_of b)) (slice_get t.run.targets 0) false
-
--- an instance of a target with the place of the target as its number
-abbrev pub is_original : Instance → Bool
-is_original i = i.number == i.of
 
 -- each target has exactly one original
 abbrev pub originals_are_there : Basis → Told → Bool

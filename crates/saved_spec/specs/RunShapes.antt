@@ -11,7 +11,7 @@ use Rattle.machine_spec.specs.declared.devices.BubbleTimer.{BubbleTimer}
 use Rattle.machine_spec.specs.declared.variables.Shown.TheVariants.{Variable, List as Items}
 use Rattle.machine_spec.specs.ScriptText.{key_of_rest}
 use Rattle.json_shapes.specs.Shapes.{Reader, found, ◌>>=◌}
-use Rattle.saved_text.specs.Saved.{Snapshot}
+use Rattle.saved_spec.specs.Saved.{Snapshot}
 use Rattle.saved_spec.specs.Kept.{SavedThread}
 use Rattle.saved_spec.specs.Shapes.{whole, signed, truth, text, word, num, each, row, part, table, member}
 use Rattle.saved_spec.specs.InstanceShapes.{instance}

@@ -9,15 +9,15 @@ use Rattle.machine_spec.specs.BubbleText.{most_characters}
 use Rattle.machine_spec.specs.declared.instance.Instance.{Instance}
 use Rattle.machine_spec.specs.declared.records.TargetRecord.{TargetRecord}
 use Rattle.machine_spec.specs.Program.{no_target}
-use Rattle.machine_spec.specs.Stores.{record_of}
+use Rattle.machine_spec.specs.Stores.{record_of, is_original}
 use Rattle.project_check.specs.Counts.{block_count}
-use Rattle.project_check.specs.Kept.{IsDressed}
-use Rattle.project_check.specs.Loaded.{tables_of}
+use Rattle.target_records.specs.Costumes.{IsDressed}
+use Rattle.project_check.specs.Loaded.{tables_of, basis_of}
 use Rattle.project_check.specs.declared.project.Project.{Project}
 use Rattle.saved_parts.specs.declared.instances.ToldInstance.{ToldInstance}
 use Rattle.saved_parts.specs.Telling.{instance_of, store_of}
-use Rattle.saved_spec.specs.Basis.{Basis, basis_of, records_of, is_edge}
-use Rattle.saved_spec.specs.Rules.{is_original, is_sprite, is_clone, has_short_texts}
+use Rattle.project_spec.specs.Basis.{Basis, records_of, is_edge}
+use Rattle.saved_spec.specs.Rules.{is_sprite, is_clone, has_short_texts}
 use Rattle.saved_spec.specs.RunShapes.{Told}
 use Rattle.saved_stores.specs.Held.{IsHeld, is_numbered}
 use Rattle.saved_stores.proofs.Hats.{edge_within}

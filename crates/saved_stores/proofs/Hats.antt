@@ -13,10 +13,10 @@ use Rattle.project_spec.specs.declared.blocks.Block.{Block}
 use Rattle.project_spec.specs.Linked.{has_role, is_head}
 use Rattle.project_spec.specs.Trees.{Sheet, head_of, hat_at, heads_of}
 use Rattle.project_check.specs.Counts.{block_count}
-use Rattle.project_check.specs.Loaded.{tables_of, blocks_at, sheet_at}
+use Rattle.project_check.specs.Loaded.{tables_of, blocks_at, sheet_at, basis_of}
 use Rattle.project_check.specs.declared.project.Project.{Project}
 use Rattle.project_check.proofs.Defining.{scripts_here}
-use Rattle.saved_spec.specs.Basis.{basis_of, is_edge, is_edge_head}
+use Rattle.project_spec.specs.Basis.{is_edge, is_edge_head}
 use Rattle.saved_stores.proofs.Comparing.{both}
 
 one_of : (sheet : Sheet) (n m : ℕ) (b : Block) (t r : Bool) (k : ℕ) (hs : List Head) → n < m → (list_any (is_edge_head k) hs ≡ true → k < m)

@@ -14,7 +14,8 @@ use Rattle.saved_parts.specs.declared.run.ToldMade.{ToldMade}
 use Rattle.saved_parts.specs.declared.run.ToldQuestion.{ToldQuestion}
 use Rattle.saved_parts.specs.declared.run.ToldRun.{ToldRun}
 use Rattle.saved_parts.specs.Telling.{instance_of, store_of, made_of, question_of, told_of}
-use Rattle.saved_spec.specs.Basis.{Basis, basis_of, records_of}
+use Rattle.project_spec.specs.Basis.{Basis, records_of}
+use Rattle.project_check.specs.Loaded.{basis_of}
 use Rattle.saved_spec.specs.RunShapes.{Told, stores_in_order}
 use Rattle.saved_spec.specs.Rules.{Rule, rules, broken, differ, is_next, is_shown, is_value_text, has_short_texts, mouse_is_on_stage, next_are_counted, made_monitors_show, clones_are_sprites, costumes_are_there, lists_are_short, answer_is_short, instances_say_little, questions_are_short, edges_are_hats}
 use Rattle.saved_stores.specs.Held.{AreDevices, AreHeld, is_of}

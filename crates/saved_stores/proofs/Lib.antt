@@ -5,6 +5,5 @@ pub mod Fitting
 pub mod Hats
 pub mod Keeping
 pub mod Monitors
-pub mod OneKey
 pub mod Sorting
 pub mod Turning

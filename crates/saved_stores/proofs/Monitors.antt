@@ -5,7 +5,7 @@ use Rattle.machine_spec.specs.declared.records.TargetRecord.{TargetRecord}
 use Rattle.machine_spec.specs.Program.{no_target, record_at}
 use Rattle.target_records.specs.Held.{IsSmall}
 use Rattle.saved_parts.specs.Telling.{shown_of}
-use Rattle.saved_spec.specs.Basis.{Basis, records_of}
+use Rattle.project_spec.specs.Basis.{Basis, records_of}
 use Rattle.saved_spec.specs.Rules.{is_shown}
 use Rattle.saved_stores.proofs.Comparing.{below}
 

@@ -6,7 +6,7 @@ use Rattle.variables.specs.Parts.{AreStores}
 use Rattle.saved_parts.specs.declared.instances.ToldInstance.{ToldInstance}
 use Rattle.saved_parts.specs.declared.run.ToldMade.{ToldMade}
 use Rattle.saved_parts.specs.Telling.{shown_of, store_of}
-use Rattle.saved_spec.specs.Basis.{Basis}
+use Rattle.project_spec.specs.Basis.{Basis}
 use Rattle.saved_spec.specs.Rules.{has_short_texts, is_shown, is_value_text}
 use Rattle.saved_stores.specs.declared.told.ToldDevices.{ToldDevices}
 use Rattle.saved_stores.specs.declared.told.ToldStores.{ToldStores}

@@ -5,7 +5,7 @@ use Rattle.machine_spec.specs.Stores.{Variables, Devices}
 use Rattle.machine_spec.specs.declared.instance.Instance.{Instance}
 use Rattle.saved_parts.specs.declared.run.ToldRun.{ToldRun}
 use Rattle.saved_parts.specs.Telling.{instance_of, store_of, made_of, question_of, told_of}
-use Rattle.saved_spec.specs.Basis.{Basis}
+use Rattle.project_spec.specs.Basis.{Basis}
 use Rattle.saved_spec.specs.RunShapes.{stores_in_order}
 use Rattle.saved_spec.specs.Rules.{broken}
 use Rattle.saved_stores.specs.declared.told.ToldDevices.{ToldDevices}

@@ -3,7 +3,7 @@
 ghost use Rattle.std.specs.Prelude.{◌≡◌, true, map, IfOk};
 ghost use Rattle.std.specs.List.{list_all};
 ghost use Rattle.saved_parts.specs.Telling.{made_of};
-ghost use Rattle.saved_spec.specs.Basis.{basis_of};
+ghost use Rattle.project_check.specs.Loaded.{basis_of};
 ghost use Rattle.saved_spec.specs.RunShapes.{stores_in_order};
 ghost use Rattle.variables.specs.Parts.{AreStores};
 ghost use Rattle.saved_stores.specs.Held.{AreDevices, AreHeld, is_of};

@@ -5,21 +5,9 @@ ghost use Rattle.std.specs.List.{list_all};
 ghost use Rattle.saved_parts.specs.Telling.{value_of};
 ghost use Rattle.saved_spec.specs.Rules.{is_short};
 
-use saved_parts::{ToldLists, ToldValue, ToldValues};
-use scratch_values::{BoundText, Value, ValueLists, Values};
+use saved_parts::{ToldLists, ToldValues, value};
+use scratch_values::{ValueLists, Values};
 use std::alloc::{AllocError, Global};
-
-// The value that is told, whose text is short enough.
-fn value(alloc: Global, told: ToldValue) -> Result<Value, AllocError>
-    requires { is_short (value_of told) ≡ true }
-    ensures { IfOk result (λ value. value ≡ value_of told) }
-{
-    match told {
-        ToldValue::Number(number) => Ok(Value::Number(number)),
-        ToldValue::Truth(truth) => Ok(Value::Truth(truth)),
-        ToldValue::Text(text) => Ok(Value::Text(BoundText::from_short(alloc, text)?)),
-    }
-}
 
 // The values that are told, whose texts are short enough. The only error is want of memory.
 pub(crate) fn values(alloc: Global, told: ToldValues) -> Result<Values, AllocError>

@@ -8,8 +8,8 @@ use Rattle.serde.specs.Event.{Log, Logs, seq_begins, seq_ends}
 use Rattle.serde_json.specs.Data.{Data}
 use Rattle.serde_json.specs.Events.{items_len, SendsValue, SendsItems}
 use Rattle.scratch_number.specs.declared.number.Num.{Num}
-use Rattle.saved_text.specs.Instances.{effect_numbers}
-use Rattle.saved_text.specs.Rows.{items_of, each}
+use Rattle.saved_spec.specs.Instances.{effect_numbers}
+use Rattle.saved_spec.specs.Rows.{items_of, each}
 
 module _ {A : Type 0} (f : A → Data) where
   items_len-map : (xs : List A) → items_len (items_of (map f xs)) ≡ length xs

@@ -16,7 +16,8 @@ use Rattle.thread_frames.specs.Reading as reading
 use Rattle.thread_frames.specs.Reading.{params_in, first_by, first_item, marker_by, marker, items_at, beneath, pending}
 use Rattle.thread_frames.specs.Threads.{Thread}
 use Rattle.saved_text.specs.Laws.{IsKept as IsKeptThread}
-use Rattle.saved_text.specs.Ranges.{IsBlock, IsFirst, IsKept, IsLevel, IsMarker, IsPlace, IsTask, IsThread, IsWhole, AreItems}
+use Rattle.saved_spec.specs.Ranges.{IsBlock, IsKept, IsFirst, IsMarker, IsPlace, IsTask, IsWhole, AreItems}
+use Rattle.saved_text.specs.Ranges.{IsLevel, IsThread}
 
 marker_ranges : (is_loop : Bool) (c : Context) (params : Params) (w : Bool) (s : Statement) → IsPlace s → IsKept params c → IsMarker (marker_by is_loop c params w s)
 marker_ranges true Called params w s place kept = (place, tt)

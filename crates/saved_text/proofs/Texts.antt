@@ -6,7 +6,7 @@ use Rattle.serde_json.specs.Sent.{IsTextOf}
 use Rattle.serde_json.proofs.FreeTexts.{text_of_value}
 use Rattle.thread_frames.specs.Threads.{Thread}
 use Rattle.saved_text.specs.Threads.{thread}
-use Rattle.saved_text.specs.Saved.{Snapshot, saved, saved_text}
+use Rattle.saved_spec.specs.Saved.{Snapshot, saved, saved_text}
 use Rattle.saved_text.proofs.Whole.{saved_whole}
 
 pub written_text : (s : Snapshot Thread) (text : List ℕ) → (log : Log) × SendsValue (saved thread s) (Some []) log × IsTextOf log text → text ≡ saved_text thread s

@@ -19,13 +19,13 @@ use Rattle.thread_frames.specs.Fit.{IsHeld, AllUnder, IsAtRest, kind_of, top_at,
 use Rattle.thread_frames.specs.Reading as reading
 use Rattle.thread_frames.specs.Reading.{params_in, first_by, first_item, marker_by, marker, items_at, beneath, pending}
 use Rattle.thread_frames.specs.Threads.{Thread}
-use Rattle.saved_text.specs.Contexts.{context}
-use Rattle.saved_text.specs.Rows.{row}
-use Rattle.saved_text.specs.Tasks as tasks
-use Rattle.saved_text.specs.Tasks.{level_at, is_marker}
+use Rattle.saved_spec.specs.Contexts.{context}
+use Rattle.saved_spec.specs.Rows.{row}
+use Rattle.saved_spec.specs.Tasks as tasks
+use Rattle.saved_spec.specs.Tasks.{level_at, is_marker}
 use Rattle.saved_text.specs.Laws.{IsKept}
 use Rattle.saved_text.specs.Threads as threads
-use Rattle.saved_text.specs.Threads.{thread_of}
+use Rattle.saved_spec.specs.Threads.{block, thread_of}
 
 marker_kept : (is_loop : Bool) (c : Context) (params : Params) (w : Bool) (s : Statement) (k : Kind) → under_fits c is_loop k ≡ true → tasks.level (marker_by is_loop c params w s) ≡ level_at s (context is_loop params c)
 marker_kept true Fresh params w s k fits = refl
@@ -95,7 +95,7 @@ behind s rest = filter-append is_marker (dos s) rest ∙ ap (λ xs. xs ++ filter
 
 -- a level with this block in place of its own
 abbrev level_of : Option ℕ → Level → Data
-level_of o l = row (threads.block o ∷ context l.is_loop (params_in l) l.context ∷ [])
+level_of o l = row (block o ∷ context l.is_loop (params_in l) l.context ∷ [])
 
 -- the block that a level under another holds, and what follows it
 held_items : (sheet : Sheet) (f : Statement → Item) (o : Option ℕ) (id : ℕ) (b : Block) → o ≡ Some id → slice_get sheet.blocks id ≡ Some b → items_at sheet f o ≡ f (statement sheet id b) ∷ dos (script sheet (target_of_link b.next))

@@ -20,14 +20,15 @@ use Rattle.machine_spec.specs.Stores.{Devices}
 use Rattle.machine_spec.specs.Threads.{Params}
 use Rattle.thread_frames.specs.declared.level.Level.{Level}
 use Rattle.thread_frames.specs.Threads.{Thread}
-use Rattle.saved_text.specs.Rows.{whole, signed, each}
-use Rattle.saved_text.specs.Values.{num, value}
-use Rattle.saved_text.specs.Instances.{edge, instance_of, instance}
-use Rattle.saved_text.specs.Monitors.{shown, made}
-use Rattle.saved_text.specs.Devices.{key, question, timer, mouse}
-use Rattle.saved_text.specs.Contexts.{count, param, context}
-use Rattle.saved_text.specs.Threads.{block, level, thread_of, thread}
-use Rattle.saved_text.specs.Saved.{Snapshot, saved}
+use Rattle.saved_spec.specs.Rows.{whole, signed, each}
+use Rattle.saved_spec.specs.Values.{num, value}
+use Rattle.saved_spec.specs.Instances.{edge, instance_of, instance}
+use Rattle.saved_spec.specs.Monitors.{shown, made}
+use Rattle.saved_spec.specs.Devices.{key, question, timer, mouse}
+use Rattle.saved_spec.specs.Contexts.{count, param, context}
+use Rattle.saved_spec.specs.Threads.{block, thread_of}
+use Rattle.saved_text.specs.Threads.{level, thread}
+use Rattle.saved_spec.specs.Saved.{Snapshot, saved}
 
 -- it holds no float
 abbrev IsWhole : Data → Type 0

@@ -7,9 +7,10 @@ use Rattle.project_spec.specs.Trees.{Sheet}
 use Rattle.thread_frames.specs.Fit.{Fits}
 use Rattle.thread_frames.specs.Reading as reading
 use Rattle.thread_frames.specs.Threads.{Thread}
-use Rattle.saved_text.specs.Ranges.{IsRun, IsTask, IsThread}
-use Rattle.saved_text.specs.Saved.{snapshot, saved}
-use Rattle.saved_text.specs.Tasks.{task}
+use Rattle.saved_spec.specs.Ranges.{IsRun, IsTask}
+use Rattle.saved_text.specs.Ranges.{IsThread}
+use Rattle.saved_spec.specs.Saved.{snapshot, saved}
+use Rattle.saved_spec.specs.Tasks.{task}
 use Rattle.saved_text.specs.Threads.{thread}
 
 -- a thread whose levels fit the blocks of its target, and which is not done

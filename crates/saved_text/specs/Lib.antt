@@ -1,14 +1,6 @@
-pub mod Contexts
-pub mod Devices
-pub mod Instances
 pub mod Laws
-pub mod Monitors
 pub mod Ranges
-pub mod Rows
-pub mod Saved
 pub mod Saving
 pub mod Seen
 pub mod Sending
-pub mod Tasks
 pub mod Threads
-pub mod Values

@@ -2,7 +2,7 @@
 use Rattle.std.specs.Prelude.{ℕ, List}
 use Rattle.hex.specs.Hex.{encode_lower}
 use Rattle.thread_frames.specs.Threads.{Thread}
-use Rattle.saved_text.specs.Saved.{Snapshot}
+use Rattle.saved_spec.specs.Saved.{Snapshot}
 use Rattle.saved_text.specs.declared.run.SavedRun.{SavedRun}
 
 abbrev pub seen : SavedRun → Snapshot Thread

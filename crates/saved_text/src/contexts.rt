@@ -3,8 +3,8 @@
 ghost use Rattle.std.specs.Prelude.{OnOk};
 ghost use Rattle.serde_json.specs.Events.{SendsValue};
 ghost use Rattle.std.specs.List.{All};
-ghost use Rattle.saved_text.specs.Contexts as saved;
-ghost use Rattle.saved_text.specs.Ranges as range;
+ghost use Rattle.saved_spec.specs.Contexts as saved;
+ghost use Rattle.saved_spec.specs.Ranges as range;
 
 use crate::rows::{Saved, send_each, send_word};
 use machine_spec::{Context, Count, GlideState, Serial, WaitState};

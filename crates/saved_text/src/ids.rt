@@ -1,7 +1,7 @@
 //! Numbers of targets, blocks, instances and threads.
 
-ghost use Rattle.saved_text.specs.Ranges as range;
-ghost use Rattle.saved_text.specs.Rows.{whole};
+ghost use Rattle.saved_spec.specs.Ranges as range;
+ghost use Rattle.saved_spec.specs.Rows.{whole};
 
 use crate::rows::Saved;
 use machine_spec::{BlockId, InstanceId, Serial, TargetId};

@@ -5,10 +5,10 @@ ghost use Rattle.std.specs.List.{All};
 ghost use Rattle.std.specs.Option.{option_copied};
 ghost use Rattle.serde_json.specs.Events.{SendsValue};
 ghost use Rattle.machine_spec.specs.Stores.{store_at};
-ghost use Rattle.saved_text.specs.Instances as saved;
-ghost use Rattle.saved_text.specs.Ranges as range;
-ghost use Rattle.saved_text.specs.Rows.{whole, each};
-ghost use Rattle.saved_text.specs.Values.{num};
+ghost use Rattle.saved_spec.specs.Instances as saved;
+ghost use Rattle.saved_spec.specs.Ranges as range;
+ghost use Rattle.saved_spec.specs.Rows.{whole, each};
+ghost use Rattle.saved_spec.specs.Values.{num};
 
 use crate::rows::{Saved, send_each, send_list, send_member};
 use machine_spec::{BlockId, Bubble, Effect, Effects, Instance, InstanceId, Say, Store, Style};
@@ -126,7 +126,7 @@ fn lists_of(stores: &[Store], of: InstanceId) -> &[Values]
 }
 
 // Sends an instance with these values and lists.
-#[tactic(auto, unfolding(crate::specs::Instances::instance_of))]
+#[tactic(auto, unfolding(saved_spec::specs::Instances::instance_of))]
 fn send_parts<S: Serializer>(
     instance: &Instance,
     values: &[Value],

@@ -4,8 +4,10 @@ ghost use Rattle.std.specs.Prelude.{◌≡◌, OnOk, ⊤};
 ghost use Rattle.std.specs.List.{All};
 ghost use Rattle.serde_json.specs.Data.{string};
 ghost use Rattle.serde_json.specs.Events.{SendsValue};
+ghost use Rattle.saved_spec.specs.Ranges.{IsBlock};
+ghost use Rattle.saved_spec.specs.Rows.{each};
+ghost use Rattle.saved_spec.specs.Threads as form;
 ghost use Rattle.saved_text.specs.Ranges as range;
-ghost use Rattle.saved_text.specs.Rows.{each};
 ghost use Rattle.saved_text.specs.Threads as saved;
 ghost use Rattle.thread_frames.specs.Reading.{params_in};
 
@@ -18,9 +20,9 @@ use serde::Serializer;
 use thread_frames::{Level, Levels, Thread, Threads};
 
 impl Saved for Option<BlockId> {
-    ghost as_data = { saved.block };
+    ghost as_data = { form.block };
 
-    ghost in_range = { λ k. range.IsBlock k };
+    ghost in_range = { λ k. IsBlock k };
 
     fn send<S: Serializer>(&self, out: &mut S) -> Result<(), S::Error> {
         match self {
@@ -70,7 +72,7 @@ impl Saved for Levels {
 }
 
 impl Saved for Status {
-    ghost as_data = { λ s. string (saved.status_name s) };
+    ghost as_data = { λ s. string (form.status_name s) };
 
     ghost in_range = { λ s. ⊤ };
 
@@ -85,7 +87,7 @@ impl Saved for Status {
 }
 
 // Sends a thread by its parts.
-#[tactic(auto, unfolding(crate::specs::Threads::thread_of))]
+#[tactic(auto, unfolding(saved_spec::specs::Threads::thread_of))]
 fn send_thread<S: Serializer>(
     hat: BlockId,
     levels: &Levels,
@@ -94,7 +96,7 @@ fn send_thread<S: Serializer>(
     status: Status,
     out: &mut S,
 ) -> Result<(), S::Error>
-    ensures sent { OnOk result (SendsValue (saved.thread_of hat number of status (saved.levels levels.now)) (S.written out.old) (S.written out.new)) }
+    ensures sent { OnOk result (SendsValue (form.thread_of hat number of status (saved.levels levels.now)) (S.written out.old) (S.written out.new)) }
     ensures ranges { OnOk result (range.HasThread hat number of levels.now) }
 {
     out.begin_map(Some(5))?;

@@ -3,9 +3,9 @@
 ghost use Rattle.std.specs.Prelude.{OnOk, ◌∷◌, []};
 ghost use Rattle.serde_json.specs.Data.{boolean, string};
 ghost use Rattle.serde_json.specs.Events.{SendsValue};
-ghost use Rattle.saved_text.specs.Monitors.{made};
-ghost use Rattle.saved_text.specs.Ranges as range;
-ghost use Rattle.saved_text.specs.Rows.{whole, row};
+ghost use Rattle.saved_spec.specs.Monitors.{made};
+ghost use Rattle.saved_spec.specs.Ranges as range;
+ghost use Rattle.saved_spec.specs.Rows.{whole, row};
 
 use crate::rows::Saved;
 use machine_spec::{Made, Shown, TargetId};

@@ -4,8 +4,8 @@ ghost use Rattle.std.specs.Prelude.{OnOk, ⊤};
 ghost use Rattle.std.specs.List.{All};
 ghost use Rattle.serde_json.specs.Data.{Data, boolean};
 ghost use Rattle.serde_json.specs.Events.{SendsValue};
-ghost use Rattle.saved_text.specs.Ranges as range;
-ghost use Rattle.saved_text.specs.Rows.{whole, signed, word_row, each};
+ghost use Rattle.saved_spec.specs.Ranges as range;
+ghost use Rattle.saved_spec.specs.Rows.{whole, signed, word_row, each};
 ghost use Rattle.saved_text.specs.Sending.{SendsMember};
 
 use lists::ListOf;

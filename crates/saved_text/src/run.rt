@@ -2,9 +2,10 @@
 
 ghost use Rattle.std.specs.Prelude.{◌∷◌, [], OnOk};
 ghost use Rattle.serde_json.specs.Events.{SendsValue};
-ghost use Rattle.saved_text.specs.Devices.{mouse};
-ghost use Rattle.saved_text.specs.Ranges.{IsRun, IsSigned, IsThread, IsWhole};
-ghost use Rattle.saved_text.specs.Saved.{saved, next};
+ghost use Rattle.saved_spec.specs.Devices.{mouse};
+ghost use Rattle.saved_spec.specs.Ranges.{IsRun, IsSigned, IsWhole};
+ghost use Rattle.saved_text.specs.Ranges.{IsThread};
+ghost use Rattle.saved_spec.specs.Saved.{saved, next};
 ghost use Rattle.saved_text.specs.Seen.{seen, seen_with};
 ghost use Rattle.saved_text.specs.Threads.{thread};
 

@@ -1,9 +1,10 @@
 //! Saving a run.
 
 ghost use Rattle.std.specs.Prelude.{◌≡◌, IfOk};
-ghost use Rattle.saved_text.specs.Ranges.{IsRun, IsThread};
-ghost use Rattle.saved_text.specs.Saved.{saved_text};
-ghost use Rattle.saved_text.specs.Saving.{IsSaved, longest};
+ghost use Rattle.saved_spec.specs.Ranges.{IsRun};
+ghost use Rattle.saved_text.specs.Ranges.{IsThread};
+ghost use Rattle.saved_spec.specs.Saved.{saved_text, longest};
+ghost use Rattle.saved_text.specs.Saving.{IsSaved};
 ghost use Rattle.saved_text.specs.Seen.{seen};
 ghost use Rattle.saved_text.specs.Threads.{thread};
 

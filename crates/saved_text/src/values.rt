@@ -2,8 +2,8 @@
 
 ghost use Rattle.scratch_number.specs.Number.{IsWithin};
 ghost use Rattle.serde_json.specs.Data.{string};
-ghost use Rattle.saved_text.specs.Ranges as range;
-ghost use Rattle.saved_text.specs.Values.{num, value};
+ghost use Rattle.saved_spec.specs.Ranges as range;
+ghost use Rattle.saved_spec.specs.Values.{num, value};
 
 use crate::rows::Saved;
 use scratch_number::Num;

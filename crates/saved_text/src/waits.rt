@@ -1,7 +1,7 @@
 //! Questions and bubble timers, for which threads wait.
 
-ghost use Rattle.saved_text.specs.Devices.{question, timer};
-ghost use Rattle.saved_text.specs.Ranges as range;
+ghost use Rattle.saved_spec.specs.Devices.{question, timer};
+ghost use Rattle.saved_spec.specs.Ranges as range;
 
 use crate::rows::Saved;
 use machine_spec::{BubbleTimer, Question};

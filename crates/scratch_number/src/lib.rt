@@ -11,7 +11,7 @@ mod writing;
 
 pub use angles::{acos, asin, atan, atan2, cos, sin, sqrt, tan};
 pub use arithmetic::{add, div, modulo, mul, sub};
-pub use number::{Num, Raw, of_millionths, of_whole, order};
+pub use number::{Num, Raw, is_less, of_millionths, of_whole, order};
 pub use reading::of_text;
 pub use whole::{abs, ceiling, floor, round};
 pub use writing::{NumText, write_text};

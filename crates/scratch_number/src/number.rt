@@ -1,4 +1,6 @@
-ghost use Rattle.std.specs.Prelude.{◌≡◌, ◌≤◌, ◌<◌, ◌*ℤ◌, pos, unsigned_abs, SomeIff};
+ghost use Rattle.std.specs.Prelude.{◌≡◌, ◌≤◌, ◌<◌, ◌*ℤ◌, pos, unsigned_abs, unwrap_or, SomeIff};
+ghost use Rattle.std.specs.Ordering.{is_lt};
+ghost use Rattle.std.specs.declared.cmp.Ordering.TheVariants.{Equal};
 ghost use Rattle.scratch_number.specs.Number.{limit, negated, number, order};
 
 use std::cmp::Ordering;
@@ -137,4 +139,12 @@ pub fn order(a: Num, b: Num) -> Option<Ordering>
             Num::Nan => None,
         },
     }
+}
+
+/// Whether a number is less than another; what is not a number is neither.
+#[inline]
+pub fn is_less(a: Num, b: Num) -> bool
+    ensures { result ≡ is_lt (unwrap_or (order a b) Equal) }
+{
+    matches!(order(a, b), Some(Ordering::Less))
 }

@@ -16,7 +16,8 @@ pub struct Counted<R> {
     ghost in_range: { drawn < 2 ^ 62 },
 }
 
-const LAST: u64 = (1 << 62) - 1;
+/// Where a counter of a run stands when no number is left.
+pub const LAST_NUMBER: u64 = (1 << 62) - 1;
 
 impl<R: Rng + Drop> Counted<R> {
     ghost use Rattle.std.specs.Prelude.{◌≡◌, ◌<◌, ◌-◌, ◌+◌, ◌^◌, ◌↔◌, IfOk, IsErr, OnOk, OnErr};
@@ -48,7 +49,7 @@ impl<R: Rng + Drop> Counted<R> {
         ensures counted { OnOk result (drawn_of self.new ≡ drawn_of self.old + 1) }
         ensures unchanged { OnErr result (self.new ≡ self.old) }
     {
-        if self.drawn == LAST {
+        if self.drawn == LAST_NUMBER {
             return Err(CounterFull);
         }
         let word = self.source.next_u32();

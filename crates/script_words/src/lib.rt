@@ -8,7 +8,7 @@ mod counting;
 mod seeding;
 mod stops;
 
-pub use counting::{Counted, CounterFull};
+pub use counting::{Counted, CounterFull, LAST_NUMBER};
 pub use rand_core::Rng;
 pub use seeding::pcg;
 pub use stops::{CounterKind, Stop};

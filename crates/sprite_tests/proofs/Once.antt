@@ -5,7 +5,7 @@ use Rattle.std.specs.List.{count_by, list_all}
 use Rattle.std.proofs.lemmas.Bool.{and_parts, cases_Bool, eqb-true, leb-true}
 use Rattle.std.proofs.lemmas.List.Sums.{sum_by-cons}
 use Rattle.machine_spec.specs.declared.instance.Instance.{Instance}
-use Rattle.looks_blocks.specs.Live.{HasOneEach}
+use Rattle.targets.specs.Live.{HasOneEach}
 
 -- either none has the number, or its count was tested
 count_tested : (count : ℕ → ℕ) (m : ℕ) (is : List Instance) → list_all (λ i. nat_le (count i.number) 1) is ≡ true → count m ≤ 1 ⊎ count_by (λ i. i.number == m) is ≡ 0

@@ -5,7 +5,7 @@ ghost use Rattle.std.specs.List.{list_all};
 ghost use Rattle.machine_spec.specs.Stores.{instance_at};
 ghost use Rattle.target_records.specs.Records.{records_in};
 ghost use Rattle.looks_blocks.specs.Costumes.{HasCostumes};
-ghost use Rattle.looks_blocks.specs.Live.{HasOneEach};
+ghost use Rattle.targets.specs.Live.{HasOneEach};
 
 use devices::Devices;
 use looks_blocks::apply;

@@ -1,7 +1,6 @@
 pub mod Found
 pub mod Lines
 pub mod Seen
-pub mod Shown
 pub mod Spaced
 pub mod Told
 pub mod Writers

@@ -11,7 +11,7 @@ ghost use Rattle.target_records.specs.Records.{records_in};
 ghost use Rattle.stage_frame.specs.Spaced.{spaced};
 
 use crate::effects::push_effects;
-use crate::names::{costume_name, target_name};
+use crate::names::target_name;
 use crate::words::{push_natural, push_number, push_quoted, push_word};
 use machine_spec::{Instance, Say, Style};
 use std::alloc::AllocError;
@@ -58,7 +58,7 @@ fn push_costume(out: &mut Vec<u8>, records: &Records, instance: &Instance) -> Re
     ensures { OnOk result (out.new.items ≡ out.old.items ++ spaced (costume_words (records_in records.now) instance.now)) }
 {
     push_natural(out, u64::from(instance.costume) + 1)?;
-    let name = costume_name(records, instance.of, instance.costume);
+    let name = records.costume_name(instance.of, instance.costume);
     push_quoted(out, name)?;
     Ok(())
 }

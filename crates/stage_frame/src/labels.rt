@@ -6,7 +6,8 @@ ghost use Rattle.machine_spec.specs.FrameText as machine;
 ghost use Rattle.stage_frame.specs.Told.{told_value};
 
 use crate::told::{Told, push_told, push_value};
-use crate::words::{push_inner, push_natural, push_quoted};
+use crate::words::{push_natural, push_quoted};
+use quoted_text::push_inner;
 use scratch_values::Value;
 use std::alloc::AllocError;
 

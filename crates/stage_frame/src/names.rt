@@ -1,31 +1,19 @@
-//! Names of targets, costumes, variables and lists.
+//! Names of targets, variables and lists.
 
-ghost use Rattle.std.specs.Prelude.{◌≡◌, [], slice_get, slice_index_or, unwrap_or, IfSome};
+ghost use Rattle.std.specs.Prelude.{◌≡◌, [], slice_get, unwrap_or};
 ghost use Rattle.std.specs.Option.{option_map};
 ghost use Rattle.machine_spec.specs.FrameText as machine;
 ghost use Rattle.machine_spec.specs.Program.{record_at};
-ghost use Rattle.target_records.specs.Held.{IsSmall};
 ghost use Rattle.target_records.specs.Records.{records_in};
 
-use machine_spec::{CostumeNames, ListRecords, TargetId, TargetRecord, VariableRecords};
+use machine_spec::{ListRecords, TargetId, VariableRecords};
 use target_records::Records;
-
-// The record of a target, if there is one.
-pub(crate) fn record(records: &Records, target: TargetId) -> Option<&TargetRecord>
-    ensures record { option_map (λ t. t.now) result ≡ slice_get (records_in records.now).targets target }
-    ensures small { IfSome result (λ t. IsSmall t.now) }
-{
-    if target.0 >= records.targets() {
-        return None;
-    }
-    Some(records.target(target))
-}
 
 // The name of a target; empty where there is none.
 pub(crate) fn target_name(records: &Records, target: TargetId) -> &str
     ensures { result.now ≡ (record_at target (records_in records.now)).name }
 {
-    match record(records, target) {
+    match records.get(target) {
         Some(record) => record.name.as_str(),
         None => "",
     }
@@ -35,7 +23,7 @@ pub(crate) fn target_name(records: &Records, target: TargetId) -> &str
 pub(crate) fn sprite_name(records: &Records, target: TargetId) -> Option<&str>
     ensures { option_map (λ name. name.now) result ≡ machine.target_name (records_in records.now) target }
 {
-    match record(records, target) {
+    match records.get(target) {
         Some(record) => {
             if record.is_stage {
                 None
@@ -44,26 +32,6 @@ pub(crate) fn sprite_name(records: &Records, target: TargetId) -> Option<&str>
             }
         }
         None => Some(""),
-    }
-}
-
-// A name of costumes; empty where there is none at the place.
-fn costume_at(names: &CostumeNames, place: u32) -> &str
-    ensures { result.now ≡ slice_index_or names.now place [] }
-{
-    match names.get(place as usize) {
-        Some(name) => name.as_str(),
-        None => "",
-    }
-}
-
-// The name of a costume of a target; empty where there is none.
-pub(crate) fn costume_name(records: &Records, target: TargetId, costume: u32) -> &str
-    ensures { result.now ≡ slice_index_or (record_at target (records_in records.now)).costumes costume [] }
-{
-    match record(records, target) {
-        Some(record) => costume_at(&record.costumes, costume),
-        None => "",
     }
 }
 
@@ -81,7 +49,7 @@ fn variable_at(variables: &VariableRecords, index: u32) -> &str
 pub(crate) fn variable_name(records: &Records, target: TargetId, index: u32) -> &str
     ensures { result.now ≡ machine.variable_name (records_in records.now) target index }
 {
-    match record(records, target) {
+    match records.get(target) {
         Some(record) => variable_at(&record.variables, index),
         None => "",
     }
@@ -101,7 +69,7 @@ fn list_at(lists: &ListRecords, index: u32) -> &str
 pub(crate) fn list_name(records: &Records, target: TargetId, index: u32) -> &str
     ensures { result.now ≡ machine.list_name (records_in records.now) target index }
 {
-    match record(records, target) {
+    match records.get(target) {
         Some(record) => list_at(&record.lists, index),
         None => "",
     }

@@ -12,13 +12,12 @@ ghost use Rattle.stage_frame.specs.Seen.{seen_stage};
 ghost use Rattle.stage_frame.specs.Told.{told_value};
 
 use crate::frame::View;
-use crate::names::costume_name;
 use crate::told::Told;
 use machine_spec::{Instance, InstanceId, TargetId};
 use project_json::{Json, is_null, member, text_of};
 use scratch_number::{of_whole, round};
 use target_records::{MonitorRecord, Records};
-use targets::Targets;
+use targets::{Targets, costume_of, target_of};
 
 // Whether a monitor with this NUMBER_NAME shows the number of a costume.
 fn is_number_name(json: &Json) -> bool
@@ -43,26 +42,6 @@ fn shows_number(monitor: &MonitorRecord) -> bool
     }
 }
 
-// The target of an instance; the first one of the file where there is none.
-fn target_of(instance: Option<&Instance>) -> TargetId
-    ensures { result ≡ (unwrap_or (option_map (λ i. i.now) instance.entry) no_instance).of }
-{
-    match instance {
-        Some(instance) => instance.of,
-        None => TargetId(0),
-    }
-}
-
-// The present costume of an instance, from 0.
-fn costume_of(instance: Option<&Instance>) -> u32
-    ensures { result ≡ (unwrap_or (option_map (λ i. i.now) instance.entry) no_instance).costume }
-{
-    match instance {
-        Some(instance) => instance.costume,
-        None => 0,
-    }
-}
-
 // The number of the present costume, from 1, or its name.
 fn number_or_name<'a>(
     by_number: bool,
@@ -75,7 +54,7 @@ fn number_or_name<'a>(
     if by_number {
         return Told::Number(of_whole(i64::from(costume) + 1));
     }
-    Told::Text(costume_name(records, target_of(instance), costume))
+    Told::Text(records.costume_name(target_of(instance), costume))
 }
 
 // The original of a target.

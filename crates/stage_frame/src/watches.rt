@@ -5,7 +5,6 @@ ghost use Rattle.stage_frame.specs.declared.watches.Watch.TheVariants.{Nothing};
 ghost use Rattle.target_records.specs.Records.{monitor_in, records_in};
 ghost use Rattle.stage_frame.specs.Found.{are_found, watch_of, watch_of_shown, watch_of_target};
 
-use crate::shown::{monitored, what_shows};
 use machine_spec::{Shown, TargetId};
 use std::alloc::{AllocError, Global};
 use target_records::{MonitorRecord, Records};
@@ -44,9 +43,9 @@ fn watch_of_target(target: Option<TargetId>) -> Watch
 fn found(records: &Records, monitor: &MonitorRecord) -> Watch
     ensures { result ≡ watch_of (records_in records.now) (monitor_in monitor.now) }
 {
-    match what_shows(records, monitor) {
+    match records.what_shows(monitor) {
         Some(shown) => watch_of_shown(&shown),
-        None => watch_of_target(monitored(monitor, records)),
+        None => watch_of_target(records.monitored(monitor)),
     }
 }
 

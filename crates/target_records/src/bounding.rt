@@ -17,15 +17,13 @@ use crate::refusal::RecordRefusal;
 use json_shapes::Place;
 use lists::ListOf;
 use machine_spec::{
-    CostumeNames, ListRecord, ListRecords, TargetRecord, VariableRecord, VariableRecords,
+    CostumeNames, ListRecord, ListRecords, MOST_ITEMS, TargetRecord, VariableRecord,
+    VariableRecords,
 };
 use project_json::{Text, Texts};
 use project_spec::FileValue;
 use scratch_values::{BoundText, LONGEST, Value, Values, VarName};
 use std::alloc::Global;
-
-// The most items that a list may have.
-const MOST_ITEMS: usize = 200_000;
 
 // A value at its place.
 fn bounded_value(alloc: Global, place: &Place, value: &FileValue) -> Result<Value, RecordRefusal>

@@ -5,10 +5,8 @@ ghost use Rattle.scratch_number.specs.Number.{limit, floor_by};
 ghost use Rattle.machine_spec.specs.Costume as costume;
 ghost use Rattle.machine_spec.specs.Looks as looks;
 ghost use Rattle.machine_spec.specs.Numbers as numbers;
-ghost use Rattle.machine_spec.specs.Stores.{less};
 
-use scratch_number::{Num, modulo, of_millionths, of_whole, order, round};
-use std::cmp::Ordering;
+use scratch_number::{Num, is_less, modulo, of_millionths, of_whole, round};
 
 /// The place of a costume by an index that counts from 0: rounded, and wrapped to the number of costumes. An index that is
 /// not finite is 0 (scratch-vm, sprites/rendered-target.js, setCostume).
@@ -21,13 +19,6 @@ pub fn costume_index(costumes: u32, index: Num) -> u32
         Num::NegInf => 0,
         Num::Nan => 0,
     }
-}
-
-// Whether a number is less than another; not-a-number is not.
-fn is_less(a: Num, b: Num) -> bool
-    ensures { result ≡ less a b }
-{
-    matches!(order(a, b), Some(Ordering::Less))
 }
 
 /// A size in percent, kept in 0 to 10000 (scratch-vm, sprites/rendered-target.js, setSize; here the bounds do not depend

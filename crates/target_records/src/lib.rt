@@ -19,6 +19,7 @@ mod monitors;
 mod reading;
 mod records;
 mod refusal;
+mod shown;
 mod targets;
 
 pub use file_records::FileRecords;

@@ -1,8 +1,10 @@
 //! The records of a project: its targets and its monitors.
 
+ghost use Rattle.std.specs.Prelude.{◌≡◌, [], slice_index_or};
+
 use crate::held_targets::HeldTargets;
 use crate::monitors::Monitors;
-use machine_spec::{TargetId, TargetRecord};
+use machine_spec::{CostumeNames, TargetId, TargetRecord};
 use scratch_values::VarName;
 use std::alloc::AllocError;
 
@@ -24,8 +26,18 @@ impl Drop for Records {
     }
 }
 
+// A name of costumes; empty where there is none at the place.
+fn costume_at(names: &CostumeNames, place: u32) -> &str
+    ensures { result.now ≡ slice_index_or names.now place [] }
+{
+    match names.get(place as usize) {
+        Some(name) => name.as_str(),
+        None => "",
+    }
+}
+
 impl Records {
-    ghost use Rattle.std.specs.Prelude.{◌≡◌, ◌+◌, ◌<◌, ◌^◌, length, map, slice_get, OnOk, OnErr, IfOk};
+    ghost use Rattle.std.specs.Prelude.{◌≡◌, ◌+◌, ◌<◌, ◌^◌, [], length, map, option_map, slice_get, slice_index_or, OnOk, OnErr, IfOk, IfSome};
     ghost use Rattle.machine_spec.specs.Lists.{changed_at};
     ghost use Rattle.machine_spec.specs.Program.{record_at, stage_number};
     ghost use Rattle.project_spec.specs.Resolving.{with_added, OfVariable, OfList};
@@ -61,6 +73,27 @@ impl Records {
         ensures small { IsSmall result.now }
     {
         self.targets.get(target.0)
+    }
+
+    /// The record of a target, if there is one.
+    pub fn get(&self, target: TargetId) -> Option<&TargetRecord>
+        ensures record { option_map (λ t. t.now) result ≡ slice_get (records_in self.now).targets target }
+        ensures small { IfSome result (λ t. IsSmall t.now) }
+    {
+        if target.0 >= self.targets() {
+            return None;
+        }
+        Some(self.target(target))
+    }
+
+    /// The name of a costume of a target; empty where there is none.
+    pub fn costume_name(&self, target: TargetId, costume: u32) -> &str
+        ensures { result.now ≡ slice_index_or (record_at target (records_in self.now)).costumes costume [] }
+    {
+        match self.get(target) {
+            Some(record) => costume_at(&record.costumes, costume),
+            None => "",
+        }
     }
 
     /// The records of all targets, in file order, and that no list of theirs has more than 200,000 items.

@@ -2,12 +2,8 @@
 use Rattle.std.specs.Prelude.{ℕ, ◌+◌, ◌==◌, nat_lt, List, [], ◌∷◌, length, Bool, false, not, ◌||◌, count_by}
 use Rattle.machine_spec.specs.declared.instance.Instance.{Instance}
 use Rattle.machine_spec.specs.Program.{Records}
-use Rattle.machine_spec.specs.Stores.{instance_at, is_on_stage}
+use Rattle.machine_spec.specs.Stores.{is_original, instance_at, is_on_stage}
 use Rattle.machine_spec.specs.Stopping.{most_clones}
-
--- an original has the place of its target as its number, and a clone has another one
-abbrev pub is_original : Instance → Bool
-is_original i = i.number == i.of
 
 abbrev pub clones_in : List Instance → ℕ
 clones_in is = count_by (λ i. not (is_original i)) is

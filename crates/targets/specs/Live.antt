@@ -1,5 +1,5 @@
 -- Live instances, and what stays of them where some are changed.
-use Rattle.std.specs.Prelude.{◌≡◌, ℕ, List, map, IsSome, Option, option_map}
+use Rattle.std.specs.Prelude.{◌≡◌, ℕ, ◌≤◌, ◌==◌, List, map, count_by, IsSome, Option, option_map}
 use Rattle.machine_spec.specs.declared.instance.Instance.{Instance}
 use Rattle.machine_spec.specs.Stores.{live}
 
@@ -18,3 +18,7 @@ pub record IsSameCast (old new : List Instance) : Type 0 where
   pub order : numbers new ≡ numbers old
   pub targets : (n : ℕ) → target_of n new ≡ target_of n old
   pub live : (n : ℕ) → IsLive n old → IsLive n new
+
+-- each number is that of one instance at most
+abbrev pub HasOneEach : List Instance → Type 0
+HasOneEach is = (m : ℕ) → count_by (λ i. i.number == m) is ≤ 1

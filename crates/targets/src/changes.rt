@@ -4,15 +4,13 @@ ghost use Rattle.std.specs.Prelude.{◌≡◌, map, IfOk};
 ghost use Rattle.machine_spec.specs.Effects.{effect_place};
 ghost use Rattle.machine_spec.specs.Looks.{effect_kept as kept_effect};
 ghost use Rattle.machine_spec.specs.Numbers.{kept_in};
-ghost use Rattle.machine_spec.specs.Stores.{less};
 ghost use Rattle.machine_spec.specs.Stopping.{cleared, copied as copy_of};
 ghost use Rattle.machine_spec.specs.Line.{without_edges};
 ghost use Rattle.targets.specs.Changes.{changed_by};
 
 use machine_spec::{Bubble, BubbleText, Edges, Effect, Effects, Instance, InstanceId, Say, Style};
-use scratch_number::{Num, of_whole, order};
+use scratch_number::{Num, is_less, of_whole};
 use std::alloc::{AllocError, Global};
-use std::cmp::Ordering;
 use std::mem;
 use target_records::{costume_index, direction_after, size_kept};
 
@@ -83,13 +81,6 @@ fn between(low: Num, high: Num, number: Num) -> Num
         return high;
     }
     number
-}
-
-// Whether a number is less than another; what is not a number is neither.
-pub(crate) fn is_less(a: Num, b: Num) -> bool
-    ensures { result ≡ less a b }
-{
-    matches!(order(a, b), Some(Ordering::Less))
 }
 
 // Takes the effects and the text of the bubble away.

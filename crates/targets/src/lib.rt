@@ -5,11 +5,13 @@ mod changes;
 mod clones;
 mod edges;
 mod first;
+mod found;
 mod hints;
 mod layers;
 mod order;
 mod state;
 
+pub use found::{costume_of, target_of};
 pub use layers::Place;
 pub use machine_spec::{
     Bubble, BubbleText, Edges, Effect, Effects, Instance, InstanceId, Say, Style, TargetId,

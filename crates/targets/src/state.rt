@@ -127,13 +127,23 @@ impl Targets {
         self.place(id).is_some()
     }
 
-    // The target of an instance, and the first where none is live.
-    fn target(&self, id: InstanceId) -> TargetId
+    /// The target of an instance, and the first where none is live.
+    pub fn target(&self, id: InstanceId) -> TargetId
         ensures { result ≡ (instance_at id self.now).of }
     {
         match self.place(id) {
             Some(place) => self.instances[place].of,
             None => TargetId(0),
+        }
+    }
+
+    /// Whether an instance is visible; where none is live it is not.
+    pub fn is_visible(&self, id: InstanceId) -> bool
+        ensures { result ≡ (instance_at id self.now).visible }
+    {
+        match self.get(id) {
+            Some(instance) => instance.visible,
+            None => false,
         }
     }
 

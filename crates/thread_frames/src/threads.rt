@@ -20,14 +20,13 @@ use crate::levels::Levels;
 use crate::stops::PushStop;
 use crate::table::Table;
 use crate::thread::Thread;
-use machine_spec::{BlockId, Boxed, Context, Control, InstanceId, Serial, Status, TargetId, Which};
+use machine_spec::{
+    BlockId, Boxed, Context, Control, InstanceId, MOST_LEVELS, Serial, Status, TargetId, Which,
+};
 use scratch_values::Params;
 use std::alloc::{AllocError, Global};
 use std::marker::Model;
 use std::mem;
-
-// The most levels that may be open.
-const MOST_LEVELS: usize = 65_536;
 
 /// The threads of a run: the list, and at most one that was replaced in it while it ran. Contracts see them in their places,
 /// each with its levels, the top one first. What acts on a thread changes nothing where no thread stands at the place.

@@ -3,4 +3,3 @@ pub mod First
 pub mod Held
 pub mod Kept
 pub mod Parts
-pub mod Shown

@@ -6,11 +6,9 @@ ghost use Rattle.machine_spec.specs.DataRows.{added as with_added, inserted as w
 ghost use Rattle.scratch_values.specs.declared.index.Index.TheVariants.{At};
 ghost use Rattle.variables.specs.Kept.{IsShort};
 
+use machine_spec::MOST_ITEMS;
 use scratch_values::{Value, Values};
 use std::alloc::AllocError;
-
-// The most items of a list.
-const MOST: usize = 200_000;
 
 // The items with one more at the end, and whether there was memory for it; at the most items nothing is added.
 #[inline]
@@ -19,7 +17,7 @@ pub(crate) fn added(mut items: Values, item: Value) -> (Values, Result<(), Alloc
     ensures err { OnErr result.1 (result.0 ≡ items) }
     ensures short { IsShort items → IsShort result.0 }
 {
-    if items.len() >= MOST {
+    if items.len() >= MOST_ITEMS {
         return (shortened(items), Ok(()));
     }
     let pushed = items.push(item);
@@ -31,7 +29,7 @@ fn shortened(items: Values) -> Values
     ensures { result ≡ take most_items items }
 {
     let mut items = items.into_vec();
-    items.truncate(MOST);
+    items.truncate(MOST_ITEMS);
     Values::from_vec(items)
 }
 
@@ -43,7 +41,7 @@ pub(crate) fn inserted(items: Values, at: u32, item: Value) -> (Values, Result<(
     ensures short { IsShort items → IsShort result.0 }
 {
     let place = (at as usize).saturating_sub(1);
-    if items.len() >= MOST {
+    if items.len() >= MOST_ITEMS {
         return (inserted_in_full(items, place, item), Ok(()));
     }
     if place >= items.len() {
@@ -69,11 +67,11 @@ fn inserted_in_full(items: Values, place: usize, item: Value) -> Values
     requires { most_items ≤ length items }
     ensures { result ≡ take most_items (take place items ++ item ∷ drop place items) }
 {
-    if place >= MOST {
+    if place >= MOST_ITEMS {
         return shortened(items);
     }
     let mut items = items.into_vec();
-    items.truncate(MOST - 1);
+    items.truncate(MOST_ITEMS - 1);
     match items.insert(place, item) {
         Ok(()) => Values::from_vec(items),
         Err(_) => unreachable!(),

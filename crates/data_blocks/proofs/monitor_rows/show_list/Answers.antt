@@ -7,6 +7,6 @@ use Rattle.data_blocks.proofs.monitor_rows.show_list.Goals as goal
 pub returns-clause-ok : goal.returns-clause-ok
 returns-clause-ok c =
     on_ok_weaker c.show.result
-    (λ e. shown_is (λ t k. shown.List t k) (records_in c.args.records.now) c.held_at-list.result.of _ c.held_at-list.result.index _ c.target_of.result c.args.targets.now c.args.visible c.args.variables.now c.show.new.self
-    e c.target_of.ensures c.held_at-list.ensures.of c.held_at-list.ensures.index)
+    (λ e. shown_is (λ t k. shown.List t k) (records_in c.args.records.now) c.held_at-list.result.of _ c.held_at-list.result.index _ c.target.result c.args.targets.now c.args.visible c.args.variables.now c.show.new.self
+    e c.target.ensures c.held_at-list.ensures.of c.held_at-list.ensures.index)
     c.show.ensures.ok

@@ -1,5 +1,5 @@
 use Rattle.std.proofs.Common.{refl}
-use Rattle.saved_text.specs.Saved.{saved}
+use Rattle.saved_spec.specs.Saved.{saved}
 use Rattle.laws_of_reading.proofs.laws.a_saved_run_is_of_the_known_version.Goals as goal
 
 pub returns : goal.returns

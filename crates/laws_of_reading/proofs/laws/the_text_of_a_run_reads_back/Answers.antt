@@ -1,7 +1,7 @@
 use Rattle.std.proofs.Common.{◌≡◌, refl, subst}
 use Rattle.machine_spec.specs.Tasks.{Task}
-use Rattle.saved_text.specs.Saved.{Snapshot, saved, saved_text}
-use Rattle.saved_text.specs.Tasks.{task}
+use Rattle.saved_spec.specs.Saved.{Snapshot, saved, saved_text}
+use Rattle.saved_spec.specs.Tasks.{task}
 use Rattle.laws_of_json.proofs.ReadingBack.{read-compact_text}
 use Rattle.laws_of_json.proofs.Utf8.{IsUtf8-compact_text}
 use Rattle.saved_spec.proofs.Telling.{same_threads}

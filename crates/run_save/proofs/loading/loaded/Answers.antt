@@ -1,7 +1,7 @@
 use Rattle.std.proofs.Common.{sym, ap, ◌∙◌, refl}
 use Rattle.script_words.specs.Words.{answers}
 use Rattle.saved_parts.specs.Telling.{told_of}
-use Rattle.saved_spec.specs.Basis.{basis_of}
+use Rattle.project_check.specs.Loaded.{basis_of}
 use Rattle.saved_spec.specs.Refusals.{first_difference}
 use Rattle.run_save.specs.Loading.{Loads}
 use Rattle.run_save.proofs.Judging.{is_accepted, passed, refused_spelling}

@@ -3,7 +3,7 @@ use Rattle.std.specs.List.{All}
 use Rattle.script_words.specs.Words.{answers}
 use Rattle.saved_levels.specs.Waits.{Tells}
 use Rattle.saved_parts.specs.Telling.{question_of, thread_of, told_of}
-use Rattle.saved_spec.specs.Basis.{basis_of}
+use Rattle.project_check.specs.Loaded.{basis_of}
 use Rattle.run_save.specs.Loading.{Makes}
 use Rattle.run_save.specs.Parts.{IsReady}
 use Rattle.run_save.proofs.Judging.{passed}

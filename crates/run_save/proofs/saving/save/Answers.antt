@@ -1,6 +1,7 @@
 use Rattle.std.proofs.Common.{subst}
 use Rattle.std.proofs.lemmas.Result.{IfOk-weaker}
-use Rattle.saved_text.specs.Saving.{IsSaved, longest}
+use Rattle.saved_text.specs.Saving.{IsSaved}
+use Rattle.saved_spec.specs.Saved.{longest}
 use Rattle.run_save.proofs.SavedRun.{is_text_of_run, ranges_of_run}
 use Rattle.run_save.proofs.saving.save.Goals as goal
 

@@ -1,7 +1,7 @@
 use Rattle.std.proofs.Common.{sym}
 use Rattle.serde_json.specs.View.{view}
 use Rattle.saved_parts.specs.Telling.{told_of}
-use Rattle.saved_spec.specs.Basis.{basis_of}
+use Rattle.project_check.specs.Loaded.{basis_of}
 use Rattle.run_save.specs.Steps.{Tells}
 use Rattle.run_save.proofs.Judging.{passed, refused_version, shape_refused, other_refused, rule_refused}
 use Rattle.run_save.proofs.telling.told_by.Goals as goal

@@ -3,7 +3,7 @@ use Rattle.std.proofs.Common.{sym, ◌∙◌}
 use Rattle.std.specs.Option.{option_copied}
 use Rattle.std.proofs.lemmas.Result.{IfOk-weaker}
 use Rattle.saved_parts.specs.Telling.{told_of}
-use Rattle.saved_spec.specs.Basis.{basis_of}
+use Rattle.project_check.specs.Loaded.{basis_of}
 use Rattle.saved_checks.proofs.Whole.{at-devices, at-instances, at-standing, at-texts, at-threads, numbers-differ, copied-some}
 use Rattle.saved_checks.proofs.checking.broken_rule.Goals as goal
 

@@ -4,7 +4,7 @@ use Rattle.std.specs.Prelude.{codes}
 use Rattle.std.specs.List.{list_all}
 use Rattle.std.specs.Option.{option_copied}
 use Rattle.saved_parts.specs.Telling.{told_of, made_of}
-use Rattle.saved_spec.specs.Basis.{basis_of}
+use Rattle.project_check.specs.Loaded.{basis_of}
 use Rattle.saved_spec.specs.Rules as rules
 use Rattle.saved_spec.specs.Rules.{rule}
 use Rattle.saved_checks.specs.Groups.{broken_in}

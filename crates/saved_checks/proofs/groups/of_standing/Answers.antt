@@ -6,7 +6,8 @@ use Rattle.machine_spec.specs.declared.effects.Effect.TheVariants.{Brightness, G
 use Rattle.machine_spec.specs.Effects.{effect_place}
 use Rattle.machine_spec.specs.Stores.{record_of, is_on_stage}
 use Rattle.saved_parts.specs.Telling.{told_of, instance_of}
-use Rattle.saved_spec.specs.Basis.{basis_of, records_of}
+use Rattle.project_check.specs.Loaded.{basis_of}
+use Rattle.project_spec.specs.Basis.{records_of}
 use Rattle.saved_spec.specs.Rules as rules
 use Rattle.saved_spec.specs.Rules.{rule}
 use Rattle.saved_checks.specs.Groups.{broken_in}

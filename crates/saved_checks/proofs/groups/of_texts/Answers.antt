@@ -4,7 +4,8 @@ use Rattle.std.specs.Prelude.{codes, nat_lt}
 use Rattle.std.specs.List.{list_all}
 use Rattle.std.specs.Option.{option_copied}
 use Rattle.saved_parts.specs.Telling.{told_of, instance_of, question_of}
-use Rattle.saved_spec.specs.Basis.{basis_of, is_edge}
+use Rattle.project_check.specs.Loaded.{basis_of}
+use Rattle.project_spec.specs.Basis.{is_edge}
 use Rattle.saved_spec.specs.Rules as rules
 use Rattle.saved_spec.specs.Rules.{rule}
 use Rattle.saved_checks.specs.Groups.{broken_in}

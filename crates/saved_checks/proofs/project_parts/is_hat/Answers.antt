@@ -11,7 +11,7 @@ abbrev tested : Option Block → Bool
 tested o = option_map_or (λ b. is_head b && has_role role.Hat b.code) o false
 
 pub returns-in-Some : goal.returns-in-Some
-returns-in-Some c = c.heads_script.ensures ∙ ap tested c.in-Some.ensures ∙ sym (hat-told c.args.project.now c.args.target c.args.number)
+returns-in-Some c = c.is_hat.ensures ∙ ap tested c.in-Some.ensures ∙ sym (hat-told c.args.project.now c.args.target c.args.number)
 
 pub returns-in-None : goal.returns-in-None
 returns-in-None c = ap tested c.in-None.ensures ∙ sym (hat-told c.args.project.now c.args.target c.args.number)

@@ -1,6 +1,6 @@
 use Rattle.std.proofs.Common.{◌≡◌, ◌≤◌, length, map, drop}
 use Rattle.machine_spec.specs.Legal.{distinct}
-use Rattle.saved_spec.specs.Threads.{same_texts}
+use Rattle.saved_spec.specs.ThreadRules.{same_texts}
 use Rattle.saved_levels.proofs.Names.{left_from}
 use Rattle.saved_levels.proofs.naming.are_named.Given as goal
 

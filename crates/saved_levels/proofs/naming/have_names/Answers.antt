@@ -5,7 +5,7 @@ use Rattle.machine_spec.specs.Legal.{distinct}
 use Rattle.project_check.specs.Loaded.{sheet_at}
 use Rattle.project_check.specs.Procedures.{callee_in, procedure_in}
 use Rattle.saved_parts.specs.Telling.{param_of}
-use Rattle.saved_spec.specs.Threads.{has_names, same_texts}
+use Rattle.saved_spec.specs.ThreadRules.{has_names, same_texts}
 use Rattle.saved_levels.proofs.Names.{names-map}
 use Rattle.saved_levels.proofs.naming.have_names.Goals as goal
 

@@ -1,10 +1,10 @@
 -- The levels that were made are those that the rules read.
 use Rattle.std.proofs.Common.{Some, map, reverse, sym, ap, ◌∙◌, subst}
 use Rattle.std.proofs.lemmas.Result.{IfOk-weaker}
-use Rattle.project_check.specs.Loaded.{sheet_at}
+use Rattle.project_check.specs.Loaded.{sheet_at, basis_of}
 use Rattle.project_spec.specs.Trees.{script}
 use Rattle.saved_parts.specs.Telling.{level_of, thread_of}
-use Rattle.saved_spec.specs.Basis.{basis_of, script_under}
+use Rattle.project_spec.specs.Basis.{script_under}
 use Rattle.saved_levels.specs.Making.{is_short_level}
 use Rattle.saved_levels.specs.Read.{top_first}
 use Rattle.saved_levels.specs.Standing.{Places}

@@ -2,7 +2,7 @@ use Rattle.std.proofs.Common.{◌∙◌, ◌&&◌, false, ap, option_and_then}
 use Rattle.std.specs.Option.{option_map_or}
 use Rattle.saved_spec.specs.Kept.{levels_of}
 use Rattle.saved_spec.specs.Levels.{items_of}
-use Rattle.saved_spec.specs.Threads.{items_fit, status_fits, promises_fit, stands_well}
+use Rattle.saved_spec.specs.ThreadRules.{items_fit, status_fits, promises_fit, stands_well}
 use Rattle.saved_spec.proofs.Placed.{both, placed}
 use Rattle.saved_spec.proofs.laws.a_legal_thread_is_accepted.Goals as goal
 

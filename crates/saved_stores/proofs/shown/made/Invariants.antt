@@ -1,7 +1,7 @@
 use Rattle.std.proofs.Common.{◌≡◌, ◌++◌, map, drop, true}
 use Rattle.std.specs.List.{list_all}
 use Rattle.saved_parts.specs.Telling.{made_of}
-use Rattle.saved_spec.specs.Basis.{basis_of}
+use Rattle.project_check.specs.Loaded.{basis_of}
 use Rattle.saved_stores.specs.Held.{is_of}
 use Rattle.saved_stores.proofs.shown.made.Given as goal
 

@@ -1,6 +1,6 @@
 use Rattle.std.proofs.Common.{length, ap, sym, ◌∙◌, subst, arith}
 use Rattle.std.specs.List.{All}
-use Rattle.project_check.specs.Kept.{IsDressed}
+use Rattle.target_records.specs.Costumes.{IsDressed}
 use Rattle.saved_stores.proofs.Fitting.{IsBounded}
 use Rattle.saved_stores.proofs.Keeping.{rules_hold}
 use Rattle.saved_stores.proofs.stores.stores_of.Goals as goal

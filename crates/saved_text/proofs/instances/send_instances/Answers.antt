@@ -1,8 +1,8 @@
 use Rattle.std.proofs.Common.{length, refl, arith}
 use Rattle.std.proofs.lemmas.Option.{slice_get_read}
 use Rattle.std.proofs.lemmas.Result.{on_ok_weaker}
-use Rattle.saved_text.specs.Instances.{instance}
-use Rattle.saved_text.specs.Ranges.{IsStanding}
+use Rattle.saved_spec.specs.Instances.{instance}
+use Rattle.saved_spec.specs.Ranges.{IsStanding}
 use Rattle.saved_text.proofs.Lists.{all_sent, continued, first_all, first_one}
 use Rattle.saved_text.proofs.instances.send_instances.Goals as goal
 

@@ -1,5 +1,5 @@
-use Rattle.saved_text.specs.Instances.{instance}
-use Rattle.saved_text.specs.Ranges.{IsStanding}
+use Rattle.saved_spec.specs.Instances.{instance}
+use Rattle.saved_spec.specs.Ranges.{IsStanding}
 use Rattle.saved_text.proofs.Lists.{AllFirst, Continues}
 use Rattle.saved_text.proofs.instances.send_instances.Given as goal
 

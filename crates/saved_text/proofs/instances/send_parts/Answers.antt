@@ -1,5 +1,5 @@
 use Rattle.std.proofs.lemmas.Result.{on_ok_weaker}
-use Rattle.saved_text.specs.Instances.{instance_of}
+use Rattle.saved_spec.specs.Instances.{instance_of}
 use Rattle.saved_text.proofs.instances.send_parts.Goals as goal
 
 pub returns-clause-sent : goal.returns-clause-sent

@@ -1,5 +1,5 @@
 use Rattle.std.proofs.Common.{refl}
-use Rattle.saved_text.specs.Saved.{saved}
+use Rattle.saved_spec.specs.Saved.{saved}
 use Rattle.saved_text.proofs.WhatIsLeft.{threads_kept}
 use Rattle.saved_text.proofs.laws.a_saved_run_is_its_world.Goals as goal
 

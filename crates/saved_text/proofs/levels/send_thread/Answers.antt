@@ -1,5 +1,5 @@
 use Rattle.std.proofs.lemmas.Result.{on_ok_weaker}
-use Rattle.saved_text.specs.Threads.{thread_of}
+use Rattle.saved_spec.specs.Threads.{thread_of}
 use Rattle.saved_text.proofs.levels.send_thread.Goals as goal
 
 pub returns-clause-sent : goal.returns-clause-sent

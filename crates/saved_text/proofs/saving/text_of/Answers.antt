@@ -1,6 +1,7 @@
 use Rattle.std.proofs.Common.{◌∙◌, ap, subst}
-use Rattle.saved_text.specs.Ranges.{IsRun, IsThread}
-use Rattle.saved_text.specs.Saved.{saved_text}
+use Rattle.saved_spec.specs.Ranges.{IsRun}
+use Rattle.saved_text.specs.Ranges.{IsThread}
+use Rattle.saved_spec.specs.Saved.{saved_text}
 use Rattle.saved_text.specs.Seen.{seen_with}
 use Rattle.saved_text.specs.Threads.{thread}
 use Rattle.saved_text.proofs.Texts.{written_text}

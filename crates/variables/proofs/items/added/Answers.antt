@@ -4,11 +4,11 @@ use Rattle.machine_spec.specs.DataRows.{most_items}
 use Rattle.variables.proofs.Limits.{pushed_short, push_full, short_when_cut}
 use Rattle.variables.proofs.items.added.Goals as goal
 
-pub returns-then-len-ge-MOST-clause-ok : goal.returns-then-len-ge-MOST-clause-ok
-returns-then-len-ge-MOST-clause-ok c = c.shortened.ensures ∙ sym (push_full most_items c.args.items c.args.item (omega arith))
+pub returns-then-len-ge-MOST_ITEMS-clause-ok : goal.returns-then-len-ge-MOST_ITEMS-clause-ok
+returns-then-len-ge-MOST_ITEMS-clause-ok c = c.shortened.ensures ∙ sym (push_full most_items c.args.items c.args.item (omega arith))
 
-pub returns-then-len-ge-MOST-clause-short : goal.returns-then-len-ge-MOST-clause-short
-returns-then-len-ge-MOST-clause-short c = λ h. short_when_cut _ _ c.shortened.ensures
+pub returns-then-len-ge-MOST_ITEMS-clause-short : goal.returns-then-len-ge-MOST_ITEMS-clause-short
+returns-then-len-ge-MOST_ITEMS-clause-short c = λ h. short_when_cut _ _ c.shortened.ensures
 
 pub returns-clause-ok : goal.returns-clause-ok
 returns-clause-ok c =

@@ -5,8 +5,8 @@ use Rattle.machine_spec.specs.DataRows.{most_items}
 use Rattle.variables.proofs.Limits.{insert_short, short_when_cut}
 use Rattle.variables.proofs.items.inserted.Goals as goal
 
-pub returns-then-len-ge-MOST-clause-short : goal.returns-then-len-ge-MOST-clause-short
-returns-then-len-ge-MOST-clause-short c = λ h. short_when_cut _ _ c.inserted_in_full.ensures
+pub returns-then-len-ge-MOST_ITEMS-clause-short : goal.returns-then-len-ge-MOST_ITEMS-clause-short
+returns-then-len-ge-MOST_ITEMS-clause-short c = λ h. short_when_cut _ _ c.inserted_in_full.ensures
 
 pub returns-clause-ok : goal.returns-clause-ok
 returns-clause-ok c =

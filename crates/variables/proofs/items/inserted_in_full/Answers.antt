@@ -4,9 +4,9 @@ use Rattle.machine_spec.specs.DataRows.{most_items}
 use Rattle.variables.proofs.Limits.{insert_behind, insert_full}
 use Rattle.variables.proofs.items.inserted_in_full.Goals as goal
 
-pub returns-then-place-ge-MOST : goal.returns-then-place-ge-MOST
-returns-then-place-ge-MOST c =
-    c.shortened.ensures ∙ sym (insert_behind most_items c.args.items c.args.place c.args.item c.requires c.if-place-ge-MOST.true)
+pub returns-then-place-ge-MOST_ITEMS : goal.returns-then-place-ge-MOST_ITEMS
+returns-then-place-ge-MOST_ITEMS c =
+    c.shortened.ensures ∙ sym (insert_behind most_items c.args.items c.args.place c.args.item c.requires c.if-place-ge-MOST_ITEMS.true)
 
 pub returns : goal.returns
 returns c =

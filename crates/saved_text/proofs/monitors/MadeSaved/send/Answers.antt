@@ -1,6 +1,6 @@
 use Rattle.std.proofs.Common.{sym, subst}
 use Rattle.std.specs.Prelude.{OnOk}
-use Rattle.saved_text.specs.Ranges.{IsShown}
+use Rattle.saved_spec.specs.Ranges.{IsShown}
 use Rattle.saved_text.proofs.Lists.{on_ok_both}
 use Rattle.saved_text.proofs.monitors.MadeSaved.send.Goals as goal
 

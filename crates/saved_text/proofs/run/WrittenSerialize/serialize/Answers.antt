@@ -1,8 +1,8 @@
 use Rattle.std.proofs.Common.{subst}
 use Rattle.std.specs.List.{All}
 use Rattle.std.proofs.lemmas.Result.{on_ok_weaker}
-use Rattle.saved_text.specs.Ranges.{IsKey, IsQuestion, IsText, IsTimer, IsWhole}
-use Rattle.saved_text.specs.Saved.{saved}
+use Rattle.saved_spec.specs.Ranges.{IsKey, IsQuestion, IsText, IsTimer, IsWhole}
+use Rattle.saved_spec.specs.Saved.{saved}
 use Rattle.saved_text.proofs.Lists.{on_ok_both}
 use Rattle.saved_text.proofs.run.WrittenSerialize.serialize.Goals as goal
 

@@ -1,6 +1,0 @@
-use Rattle.std.proofs.Common.{◌≡◌, drop}
-use Rattle.project_spec.specs.Linked.{named}
-use Rattle.block_checks.proofs.named.named.Given as goal
-
-abbrev pub invariant-loop-other : goal.invariant-loop-other
-invariant-loop-other g l = named l.name l.items ≡ named l.name (drop l.other-index l.items)
