@@ -589,8 +589,6 @@ pub fn inputs<'p, R: Rng + Drop>(
     ensures kind { IfErr result IsOfValuesOrMemory }
 {
     let _cached = linked(view, block);
-    let _ranks = view.project.rank(view.target, block);
-    let _closed = view.project.blocks(view.target);
     a_script_is_told();
     arguments(alloc, view, block, words)
 }

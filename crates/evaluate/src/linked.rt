@@ -24,8 +24,6 @@ pub(crate) fn linked<'p>(view: &View<'p, '_>, id: BlockId) -> &'p CachedBlock
     ensures plugged { ArePluggedIn view.now id result.now.inputs }
     ensures order { HasOrder result.now }
 {
-    let _ranks = view.project.rank(view.target, id);
-    let _closed = view.project.blocks(view.target);
     links_fall();
     view.project.cached(view.target, id)
 }
@@ -40,7 +38,6 @@ pub(crate) fn way_at<'p>(view: &View<'p, '_>, id: BlockId) -> Way<'p>
     ensures plugged { IsWayPlugged view.now id result }
 {
     let block = linked(view, id);
-    let _ranks = view.project.rank(view.target, id);
     an_expression_is_told();
     way_of(block)
 }

@@ -30,8 +30,6 @@ pub fn no_inputs<'p>(view: &View<'p, '_>, block: BlockId) -> Args<'p>
     ensures { (s : Statement) → (rest : Script) → (w : Words) → script (sheet_of view.now) (Some block) ≡ Then s rest → evaluated (seen view.now) s w ≡ Goes (record { value = result; words = w }) }
 {
     let cached = linked(view, block);
-    let _ranks = view.project.rank(view.target, block);
-    let _closed = view.project.blocks(view.target);
     a_script_is_told();
     Args::none(cached.fields.as_slice())
 }
@@ -78,8 +76,6 @@ pub fn only_input<'p, R: Rng + Drop>(
     ensures kind { IfErr result IsOfValuesOrMemory }
 {
     let _cached = linked(view, block);
-    let _ranks = view.project.rank(view.target, block);
-    let _closed = view.project.blocks(view.target);
     a_script_is_told();
     sole(alloc, view, block, words)
 }

@@ -16,7 +16,7 @@ use Rattle.thread_frames.specs.Counting.{open_in}
 use Rattle.thread_frames.proofs.Counts.{open_in-put}
 use Rattle.thread_moves.specs.Standing.{IsAt, TopHolds, MovesTo, is_ended, IsReadyUnless as LevelsReadyUnless}
 use Rattle.project_check.specs.declared.project.Project.{Project}
-use Rattle.executions.specs.declared.running.Runner.{Runner}
+use Rattle.executions.specs.declared.runner.Runner.{Runner}
 use Rattle.executions.specs.declared.state.State.{State}
 use Rattle.executions.specs.Ready.{IsReadyUnless}
 use Rattle.executions.specs.Moves.{IsAtBlock, MovesOn, with_levels}

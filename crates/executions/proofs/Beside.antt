@@ -1,6 +1,6 @@
 -- The running thread goes on where others are started or ended beside it.
-use Rattle.std.proofs.Common.{◌≡◌, ◌≢◌, ℕ, ◌<◌, ◌^◌, Bool, true, false, not, List, [], ◌∷◌, ◌++◌, length, Option, Some, None, Result, Ok, Err, refl, sym, ap, ◌∙◌, subst, arith}
-use Rattle.std.specs.Prelude.{IfOk, filter, ◌==◌, ◌&&◌}
+use Rattle.std.proofs.Common.{◌≡◌, ◌≢◌, ℕ, ◌<◌, ◌^◌, Bool, true, false, not, List, [], ◌∷◌, ◌++◌, length, Option, Some, None, Result, Err, refl, sym, ap, ◌∙◌, subst, arith}
+use Rattle.std.specs.Prelude.{filter, ◌==◌, ◌&&◌}
 use Rattle.std.specs.Option.{option_map}
 use Rattle.std.proofs.lemmas.Option.{same_Some}
 use Rattle.rand_core.specs.Stream.{Stream}
@@ -31,7 +31,8 @@ use Rattle.machine_spec.specs.World.{World}
 use Rattle.project_spec.specs.Trees.{Sheet, target_of_link, script, statement}
 use Rattle.project_spec.proofs.Unrolling.{script-at}
 use Rattle.project_check.specs.declared.project.Project.{Project}
-use Rattle.project_check.specs.Loaded.{program_of, tables_of, ranks_at}
+use Rattle.project_check.specs.Loaded.{program_of, ranks_at}
+use Rattle.project_check.proofs.Linked.{ranked_at}
 use Rattle.speech_bubbles.specs.Scenes.{scene_in}
 use Rattle.targets.specs.Live.{IsLive, IsSameCast}
 use Rattle.thread_frames.specs.Levels.{top_block, without_top, warp_flag}
@@ -42,11 +43,12 @@ use Rattle.thread_moves.specs.Standing.{IsAt, TopHolds}
 use Rattle.hats.specs.Heads.{IsHeadOf}
 use Rattle.hats.proofs.Headed.{starts-headed}
 use Rattle.executions.specs.declared.state.State.{State}
-use Rattle.executions.specs.declared.stepping.Next.{Next}
+use Rattle.executions.specs.declared.execution.Next.{Next}
 use Rattle.executions.specs.Seen.{sheets, seen_threads, seen}
 use Rattle.executions.specs.Ready.{ArePeopled, HasNoneFrom, IsOfLive, IsKept, IsReady, IsAfter}
 use Rattle.executions.specs.Moves.{IsAtBlock, Moved, MovesOn, with_levels}
 use Rattle.executions.specs.Nexts.{next_by, next_of}
+use Rattle.executions.specs.Answers.{ActsAs}
 use Rattle.executions.specs.Rows.{Acts}
 use Rattle.executions.proofs.Begun.{crowd, hats_of, begun_runs, begins, begin_stops, begun_kept}
 use Rattle.executions.proofs.Keeping.{kept_cast, kept_threads}
@@ -56,7 +58,6 @@ use Rattle.executions.proofs.Natural.{ended_seen}
 use Rattle.executions.proofs.People.{none_first_removed, people_cast, people_removed}
 use Rattle.executions.proofs.Crew.{is_live-without}
 use Rattle.executions.proofs.Placing.{put_seen, at_seen, place_seen, everyone_put}
-use Rattle.executions.proofs.Ranks.{ranks_here}
 use Rattle.executions.proofs.Sights.{sees, finish_fits}
 use Rattle.executions.proofs.Stops.{stop-then, stop-same}
 use Rattle.executions.proofs.Taking.{holds_by}
@@ -143,10 +144,8 @@ module _ {R : Type 0} (stream : R → Stream) (p : Project) (i : ℕ) (w : State
         is_after : IsKept p v → IsAfter p i report (record v { threads = ts })
         is_after kept = after p t x moved_so.levels report stands i v ts found ts_is ready.alive kept
 
-      pub still_after : n.target < length (tables_of p) → IsKept p v → IsAfter p i report (record v { threads = ts })
-      still_after there kept =
-          let ranks = ranks_here p t.target (subst (λ y. y < length (tables_of p)) (sym is.target) there) in
-          is_after (statement sheet n.id th.block) (script sheet (target_of_link th.block.next)) (script-at sheet (ranks_at t.target p) ranks n.id th.block th.found) kept
+      pub still_after : IsKept p v → IsAfter p i report (record v { threads = ts })
+      still_after kept = is_after (statement sheet n.id th.block) (script sheet (target_of_link th.block.next)) (script-at sheet (ranks_at t.target p) (ranked_at p t.target) n.id th.block th.found) kept
 
   -- Other scripts of the instance
 
@@ -193,8 +192,8 @@ module _ {R : Type 0} (stream : R → Stream) (p : Project) (i : ℕ) (w : State
             (λ s rest e. ap (λ o. then_do o (λ x. Goes (moved i (settle (r rest) (warp_flag t.levels)) x))) others_are
             ∙ ap Goes (moves stopped still_runs which place_is (λ s rest warp. settle rest warp) ts report m s rest e))
 
-        pub others_after : n.target < length (tables_of p) → IsAfter p i report (record stopped { threads = ts })
-        others_after there = still_after stopped still_runs which place_is (λ s rest warp. settle rest warp) ts report m there stopped_kept
+        pub others_after : IsAfter p i report (record stopped { threads = ts })
+        others_after = still_after stopped still_runs which place_is (λ s rest warp. settle rest warp) ts report m stopped_kept
 
   pub others_stop : (T U : Type 0) (stop : Stop) → StopIs {T = T} (Err stop) (questions_dropped n.here (scene_in w.targets w.devices)) → (late : Bool) → Acts stream p i n.id late control.StopOthers w (StopIs {T = U} (Err stop))
   others_stop T U stop h late =
@@ -226,9 +225,9 @@ module _ {R : Type 0} (stream : R → Stream) (p : Project) (i : ℕ) (w : State
             (λ s rest e. ap (λ o. then_do o (λ b. Goes (moved i (after_start wait b.serials s (warp_flag t.levels) (r rest)) b.world))) (begins stream p i w ready.kept.threads hats ts count serials started)
             ∙ ap Goes (moves begun_state runs_on which here goes_to last report m s rest e))
 
-        pub start_after : n.target < length (tables_of p) → (Everyone (Fits (sheets p)) w.threads → Everyone (Fits (sheets p)) ts) → count < 2 ^ 62 → IsAfter p i report (record begun_state { threads = last })
-        start_after there fits few =
-            still_after begun_state runs_on which here goes_to last report m there
+        pub start_after : (Everyone (Fits (sheets p)) w.threads → Everyone (Fits (sheets p)) ts) → count < 2 ^ 62 → IsAfter p i report (record begun_state { threads = last })
+        start_after fits few =
+            still_after begun_state runs_on which here goes_to last report m
             (begun_kept p w ready.kept (Some i) (hats_of p w hats) (starts-headed p w.targets hats) ts count serials started fits few)
 
   pub start_stops : (T U : Type 0) (stop : Stop) (hats : Filter) (wait : Bool) → StopIs {T = T} (Err stop) (start_all frames (Some i) (hats_of p w hats) (crowd w)) → (late : Bool) → Acts stream p i n.id late (control.Start hats wait) w (StopIs {T = U} (Err stop))
@@ -331,18 +330,14 @@ module _ {R : Type 0} (stream : R → Stream) (p : Project) (i : ℕ) (w : State
           (λ s rest e. ap (λ b. deleted_if b i (task (sheets p) t) (settle (r rest) (warp_flag t.levels)) (seen stream p w)) (ap (is_clone (program_of p).records) is.here ∙ original)
           ∙ ap Goes (moves w ready.found which at (λ s rest warp. settle rest warp) ts report m s rest e))
 
-      pub original_after : n.target < length (tables_of p) → IsAfter p i report (record w { threads = ts })
-      original_after there = still_after w ready.found which at (λ s rest warp. settle rest warp) ts report m there ready.kept
+      pub original_after : IsAfter p i report (record w { threads = ts })
+      original_after = still_after w ready.found which at (λ s rest warp. settle rest warp) ts report m ready.kept
 
 -- A control of which it is known what it is
 
 module _ {R : Type 0} (stream : R → Stream) (p : Project) (i k : ℕ) (c d : Control) (w : State R) (late : Bool) (is : c ≡ d) where
-  pub acts_so : (v : State R) (result : Result Report Stop) → IfOk result (λ report. (l : Bool) → Acts stream p i k l d w (λ o. o ≡ Goes (record { world = seen stream p v; report = report }))) → IfOk result (λ report. Acts stream p i k late c w (λ o. o ≡ Goes (record { world = seen stream p v; report = report })))
-  acts_so v (Ok report) h = subst (λ x. Acts stream p i k late x w (λ o. o ≡ Goes (record { world = seen stream p v; report = report }))) (sym is) (h late)
-  acts_so v (Err stop) h = tt
-
-  pub stops_so : (result : Result Report Stop) → ((l : Bool) → Acts stream p i k l d w (StopIs result)) → Acts stream p i k late c w (StopIs result)
-  stops_so result h = subst (λ x. Acts stream p i k late x w (StopIs result)) (sym is) (h late)
+  pub acts_as : (result : Result Report Stop) (v : State R) → ((l : Bool) → ActsAs stream p i k l d w result v) → ActsAs stream p i k late c w result v
+  acts_as result v h = subst (λ x. ActsAs stream p i k late x w result v) (sym is) (h late)
 
 -- The block that started hats
 

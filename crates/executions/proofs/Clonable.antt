@@ -54,7 +54,7 @@ module _ (here n : ℕ) where
   message_clones threads Spoken message s = refl
   message_clones threads Called message s = refl
 
-  own_clones : (control : Control) → is_own control ≡ true → may_clone here n control ≡ true
+  pub own_clones : (control : Control) → is_own control ≡ true → may_clone here n control ≡ true
   own_clones (Clone original) h = absurd (cc)
   own_clones Next h = refl
   own_clones (Branch k is_loop) h = refl

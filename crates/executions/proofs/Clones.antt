@@ -1,5 +1,5 @@
 -- A clone is made beside the running thread.
-use Rattle.std.proofs.Common.{◌≡◌, ◌≢◌, ℕ, ◌+◌, ◌<◌, ◌^◌, Bool, true, false, List, [], ◌∷◌, ◌++◌, length, Some, Err, refl, sym, ap, ◌∙◌, subst, arith}
+use Rattle.std.proofs.Common.{◌≡◌, ◌≢◌, ℕ, ◌+◌, ◌<◌, ◌^◌, Bool, true, false, List, [], ◌∷◌, ◌++◌, Some, Err, refl, sym, ap, ◌∙◌, subst, arith}
 use Rattle.std.specs.Prelude.{◌==◌, if◌then◌else◌}
 use Rattle.rand_core.specs.Stream.{Stream}
 use Rattle.script_words.specs.declared.stops.CounterKind.TheVariants as counter
@@ -18,14 +18,14 @@ use Rattle.machine_spec.specs.Step.{moved, cloned, cloned_unless}
 use Rattle.machine_spec.specs.Stopping.{copied, clone_added, placed_behind, has_no_room}
 use Rattle.machine_spec.specs.Tasks.{begin}
 use Rattle.project_check.specs.declared.project.Project.{Project}
-use Rattle.project_check.specs.Loaded.{program_of, tables_of}
+use Rattle.project_check.specs.Loaded.{program_of}
 use Rattle.targets.specs.Live.{IsLive}
 use Rattle.thread_frames.specs.Fit.{Fits}
 use Rattle.thread_frames.specs.Levels.{warp_flag}
 use Rattle.thread_frames.specs.Threads.{Thread, frames}
 use Rattle.hats.proofs.Headed.{starts-headed}
 use Rattle.executions.specs.declared.state.State.{State}
-use Rattle.executions.specs.declared.stepping.Next.{Next}
+use Rattle.executions.specs.declared.execution.Next.{Next}
 use Rattle.executions.specs.Seen.{sheets, seen}
 use Rattle.executions.specs.Ready.{ArePeopled, IsKept, IsReady, IsAfter}
 use Rattle.executions.specs.Moves.{IsAtBlock, MovesOn}
@@ -121,8 +121,8 @@ module _ {R : Type 0} (stream : R → Stream) (p : Project) (i original : ℕ) (
           (λ s rest e. ap (λ o. then_do o (λ x. Goes (moved i (settle (r stream p i w ready n is rest) (warp_flag ready.thread.levels)) x))) made
           ∙ ap Goes (moves stream p i w ready n is v (runs ∙ ready.found) which here (λ s rest warp. settle rest warp) ts report m s rest e))
 
-      pub clone_after : n.target < length (tables_of p) → IsKept p v → IsAfter p i report (record v { threads = ts })
-      clone_after there kept = still_after stream p i w ready n is v (runs ∙ ready.found) which here (λ s rest warp. settle rest warp) ts report m there kept
+      pub clone_after : IsKept p v → IsAfter p i report (record v { threads = ts })
+      clone_after kept = still_after stream p i w ready n is v (runs ∙ ready.found) which here (λ s rest warp. settle rest warp) ts report m kept
 
   pub clone_act_stops : (T U : Type 0) (stop : Stop) → StopIs {T = T} (Err stop) (cloned_unless (has_no_room (program_of p).records original (seen stream p w)) (program_of p) i original (seen stream p w)) → (late : Bool) → Acts stream p i n.id late (control.Clone original) w (StopIs {T = U} (Err stop))
   clone_act_stops T U stop h late =

@@ -15,9 +15,8 @@ use Rattle.machine_spec.specs.First.{original, layered, in_order}
 use Rattle.machine_spec.specs.Lists.{first_removed, removed_at}
 use Rattle.machine_spec.specs.Stopping.{cleared, copied, placed_behind}
 use Rattle.machine_spec.specs.Stores.{live, instance_at, no_instance, less}
-use Rattle.looks_blocks.specs.Live.{HasOneEach}
+use Rattle.targets.specs.Live.{HasOneEach, IsLive, IsSameCast, target_of, numbers}
 use Rattle.targets.specs.First.{first_instances}
-use Rattle.targets.specs.Live.{IsLive, IsSameCast, target_of, numbers}
 use Rattle.targets.proofs.Cast.{KeepsCast, cast-map, live_is_placed}
 use Rattle.targets.proofs.Moves.{inserted_behind_is, live-pushed, live-removed}
 use Rattle.targets.proofs.Places.{find_none}

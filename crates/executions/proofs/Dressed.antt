@@ -11,7 +11,8 @@ use Rattle.project_check.specs.declared.project.Project.{Project}
 use Rattle.project_check.specs.Loaded.{program_of}
 use Rattle.targets.specs.Live.{IsLive}
 use Rattle.targets.proofs.Places.{position_is}
-use Rattle.looks_blocks.specs.Costumes.{IsDressed, HasCostumes}
+use Rattle.target_records.specs.Costumes.{IsDressed}
+use Rattle.looks_blocks.specs.Costumes.{HasCostumes}
 use Rattle.executions.specs.Ready.{ArePeopled}
 
 record_in : {A : Type 0} (P : A → Type 0) (xs : List A) (t : ℕ) (d : A) → All P xs → t < length xs → P (unwrap_or (slice_get xs t) d)

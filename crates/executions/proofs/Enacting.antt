@@ -18,7 +18,7 @@ use Rattle.machine_spec.specs.declared.threads.Which.{Which}
 use Rattle.opcode_table.specs.declared.kinds.Kind.{Kind}
 use Rattle.opcode_table.specs.declared.kinds.Kind.TheVariants.{Counted as CountedKind, Calls, Waits, Glides, Starts, Asks, Speaks}
 use Rattle.opcode_table.specs.Kinds.{kind}
-use Rattle.control_blocks.specs.Afresh.{was_afresh}
+use Rattle.block_arguments.specs.Afresh.{was_afresh}
 use Rattle.machine_spec.specs.Keeping.{top_fits}
 use Rattle.machine_spec.specs.Evaluate.{evaluated}
 use Rattle.machine_spec.specs.Threads.{Params}
@@ -31,12 +31,12 @@ use Rattle.machine_spec.specs.Starting.{open_levels}
 use Rattle.machine_spec.specs.Step.{Moment, position, opens_level, row, act, step}
 use Rattle.machine_spec.specs.Tasks.{Task}
 use Rattle.machine_spec.specs.World.{World}
-use Rattle.project_spec.specs.Linked.{IsClosed, AreRanks}
 use Rattle.project_spec.specs.declared.blocks.Block.{Block}
 use Rattle.project_spec.specs.Trees.{Sheet, script}
 use Rattle.project_spec.proofs.Unrolling.{held_at}
 use Rattle.project_check.specs.declared.project.Project.{Project}
-use Rattle.project_check.specs.Loaded.{program_of, blocks_at, ranks_at}
+use Rattle.project_check.specs.Loaded.{program_of, ranks_at}
+use Rattle.project_check.proofs.Linked.{closed_at, ranked_at}
 use Rattle.cached_blocks.specs.declared.block.CachedBlock.{CachedBlock}
 use Rattle.cached_blocks.specs.Cached.{cached_block, cached_blocks}
 use Rattle.targets.specs.Live.{IsLive}
@@ -51,7 +51,7 @@ use Rattle.thread_frames.proofs.Counts.{open_in-put, length-on_top}
 use Rattle.thread_moves.specs.Ranked.{IsRanked}
 use Rattle.thread_moves.proofs.Moves.{cached_is}
 use Rattle.executions.specs.declared.state.State.{State}
-use Rattle.executions.specs.declared.stepping.Next.{Next}
+use Rattle.executions.specs.declared.execution.Next.{Next}
 use Rattle.executions.specs.Seen.{sheets, seen_threads, seen}
 use Rattle.executions.specs.Choices.{KeepsNothing}
 use Rattle.executions.specs.Ready.{IsReady, IsAfter}
@@ -127,12 +127,12 @@ rest_taken [] = refl
 rest_taken (l ∷ ls) = refl
 
 module _ {R : Type 0} (stream : R → Stream) (p : Project) (i : ℕ) (which : Which) (n : Next) (late : Bool) (a : Arguments) (w : State R) (ready : IsReady p i w) (at : which ≡ place i w.threads)
-    (next : next_of (at_place which w.threads) ≡ Some n) (ranks : AreRanks (blocks_at n.target p) (ranks_at n.target p)) (closed : IsClosed (blocks_at n.target p)) where
+    (next : next_of (at_place which w.threads) ≡ Some n) where
   pub facts : IsNext ready.thread n
   facts = next_facts ready.thread n (top_block ready.thread.levels) refl (sym (ap next_of (ap (λ z. at_place z w.threads) at ∙ ready.found)) ∙ next)
 
   pub ranked : IsRanked (sheets p ready.thread.target)
-  ranked = subst (λ t. IsRanked (sheets p t)) facts.target_is (record { ranks = ranks_at n.target p; falls = ranks; closed = closed })
+  ranked = subst (λ t. IsRanked (sheets p t)) facts.target_is (record { ranks = ranks_at n.target p; falls = ranked_at p n.target; closed = closed_at p n.target })
 
   -- its instance is live
   pub here_live : IsLive n.here w.targets

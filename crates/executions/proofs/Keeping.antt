@@ -6,13 +6,12 @@ use Rattle.machine_spec.specs.Threads.{is_done}
 use Rattle.machine_spec.specs.declared.threads.Which.{Which}
 use Rattle.machine_spec.specs.Places.{Places, at_place, put, Everyone}
 use Rattle.project_check.specs.declared.project.Project.{Project}
-use Rattle.targets.specs.Live.{IsLive, IsSameCast}
+use Rattle.targets.specs.Live.{IsLive, IsSameCast, HasOneEach}
 use Rattle.variables.specs.Held.{HasNoStore}
 use Rattle.thread_frames.specs.Fit.{Fits}
 use Rattle.thread_frames.specs.Threads.{Thread, no_threads}
 use Rattle.executions.specs.declared.state.State.{State}
 use Rattle.executions.specs.Seen.{sheets}
-use Rattle.looks_blocks.specs.Live.{HasOneEach}
 use Rattle.executions.specs.Ready.{AllFit, HasSameTargets, ArePeopled, HasNoneFrom, IsOfLive, IsKept}
 use Rattle.executions.proofs.Crew.{live-targets, one_each-cast}
 use Rattle.executions.specs.Resting.{IsResting, IsIdle}

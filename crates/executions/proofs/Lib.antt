@@ -18,7 +18,7 @@ pub mod Crew
 pub mod People
 pub mod Natural
 pub mod Kept
-pub mod Ranks
+pub mod Absent
 pub mod Sights
 pub mod Begun
 pub mod Keeping

@@ -15,8 +15,7 @@ use Rattle.machine_spec.specs.Outcome.{last_number}
 use Rattle.machine_spec.specs.Stopping.{is_clone, copied, placed_behind}
 use Rattle.machine_spec.specs.Stores.{Variables, instance_at}
 use Rattle.targets.specs.First.{first_instances}
-use Rattle.targets.specs.Live.{IsLive, IsSameCast}
-use Rattle.looks_blocks.specs.Live.{HasOneEach}
+use Rattle.targets.specs.Live.{IsLive, IsSameCast, HasOneEach}
 use Rattle.project_check.specs.declared.project.Project.{Project}
 use Rattle.project_check.specs.Loaded.{program_of, tables_of}
 use Rattle.executions.specs.Ready.{HasSameTargets, ArePeopled, HasNoneFrom}

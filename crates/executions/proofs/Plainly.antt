@@ -17,10 +17,8 @@ use Rattle.machine_spec.specs.declared.threads.Report.{Report}
 use Rattle.machine_spec.specs.declared.threads.Which.{Which}
 use Rattle.machine_spec.specs.Pending.{settle}
 use Rattle.machine_spec.specs.Places.{at_place, put, place, on_place}
-use Rattle.project_spec.specs.Linked.{IsClosed, AreRanks}
 use Rattle.project_spec.specs.declared.blocks.Block.{Block}
 use Rattle.project_check.specs.declared.project.Project.{Project}
-use Rattle.project_check.specs.Loaded.{blocks_at, ranks_at}
 use Rattle.cached_blocks.specs.declared.block.CachedBlock.{CachedBlock}
 use Rattle.cached_blocks.specs.Cached.{cached_block, cached_blocks}
 use Rattle.thread_frames.specs.Levels.{on_top, with_context, top_context}
@@ -28,7 +26,7 @@ use Rattle.thread_frames.specs.Fit.{kind_of}
 use Rattle.thread_frames.specs.Threads.{levels_of, on_levels}
 use Rattle.thread_moves.proofs.Moves.{cached_is}
 use Rattle.executions.specs.declared.state.State.{State}
-use Rattle.executions.specs.declared.stepping.Next.{Next as Following}
+use Rattle.executions.specs.declared.execution.Next.{Next as Following}
 use Rattle.executions.specs.Choices.{KeepsNothing}
 use Rattle.executions.specs.Seen.{sheets, seen}
 use Rattle.executions.specs.Ready.{IsReady, IsAfter}
@@ -60,13 +58,13 @@ pub data_keeps : (o : Opcode) → group o ≡ Data → KeepsNothing (kind o)
 data_keeps o h = subst KeepsNothing (sym (data_plain o h)) plain_keeps
 
 module _ {R : Type 0} (stream : R → Stream) (p : Project) (i : ℕ) (which : Which) (n : Following) (late : Bool) (a : Arguments) (w : State R) (ready : IsReady p i w) (at : which ≡ place i w.threads)
-    (next : next_of (at_place which w.threads) ≡ Some n) (ranks : AreRanks (blocks_at n.target p) (ranks_at n.target p)) (closed : IsClosed (blocks_at n.target p))
+    (next : next_of (at_place which w.threads) ≡ Some n)
     (b : CachedBlock) (cached : slice_get (cached_blocks (sheets p n.target)) n.id ≡ Some b) (keeps : KeepsNothing (kind b.op)) where
   abbrev facts : enacting.IsNext ready.thread n
-  facts = enacting.facts stream p i which n late a w ready at next ranks closed
+  facts = enacting.facts stream p i which n late a w ready at next
 
   abbrev ranked : Rattle.thread_moves.specs.Ranked.IsRanked (sheets p ready.thread.target)
-  ranked = enacting.ranked stream p i which n late a w ready at next ranks closed
+  ranked = enacting.ranked stream p i which n late a w ready at next
 
   block_is : b ≡ cached_block (sheets p ready.thread.target) n.id (steps.th stream p i n.id late w ready facts.holds ranked).block
   block_is = cached_is (sheets p ready.thread.target) ready.thread.levels n.id ranked (steps.th stream p i n.id late w ready facts.holds ranked) b (subst (λ t. slice_get (cached_blocks (sheets p t)) n.id ≡ Some b) facts.target_is cached)
@@ -95,15 +93,15 @@ module _ {R : Type 0} (stream : R → Stream) (p : Project) (i : ℕ) (which : W
   keeps_nothing = sym (ap (λ o. top_context (levels_of o)) found_here ∙ fresh)
 
   pub stands_at : IsAtBlock p which w.threads n.target n.id
-  stands_at = enacting.stands_at stream p i which n late a w ready at next ranks closed w.threads Fresh keeps_nothing nothing_taken b cached
+  stands_at = enacting.stands_at stream p i which n late a w ready at next w.threads Fresh keeps_nothing nothing_taken b cached
 
   pub row_stops : (T U : Type 0) (stop : Stop) → ((thread : ℕ) (context : Context) → RowStops {T = T} stream p b a n.here thread context w (Err stop)) → Enacts stream p i n.id late a w (StopIs {T = U} (Err stop))
-  row_stops T U stop stops = enacting.row_stops stream p i which n late a w ready at next ranks closed w.threads Fresh keeps_nothing nothing_taken b cached T U stop (stops n.serial Fresh)
+  row_stops T U stop stops = enacting.row_stops stream p i which n late a w ready at next w.threads Fresh keeps_nothing nothing_taken b cached T U stop (stops n.serial Fresh)
 
   module _ (new : State R) (goes : (thread : ℕ) (context : Context) → RowGoes stream p b a n.here thread context w Fresh new Next) (left : Leaves w new)
       (last : State R) (report : Report) (moves : MovesOn p which n.target n.id (λ s rest warp. settle rest warp) new.threads last.threads report) (last_is : last ≡ record new { threads = last.threads }) where
     pub goes_on : Enacts stream p i n.id late a w (λ o. o ≡ Goes (record { world = seen stream p last; report = report }))
-    goes_on = enacting.own_goes stream p i which n late a w ready at next ranks closed w.threads Fresh keeps_nothing nothing_taken b cached new Next Fresh (goes n.serial Fresh) refl left last report moves last_is (λ e. absurd (cc e))
+    goes_on = enacting.own_goes stream p i which n late a w ready at next w.threads Fresh keeps_nothing nothing_taken b cached new Next Fresh (goes n.serial Fresh) refl left last report moves last_is (λ e. absurd (cc e))
 
     pub goes_after : IsAfter p i report last
-    goes_after = enacting.own_after stream p i which n late a w ready at next ranks closed w.threads Fresh keeps_nothing nothing_taken b cached new Next Fresh (goes n.serial Fresh) refl left last report moves last_is
+    goes_after = enacting.own_after stream p i which n late a w ready at next w.threads Fresh keeps_nothing nothing_taken b cached new Next Fresh (goes n.serial Fresh) refl left last report moves last_is

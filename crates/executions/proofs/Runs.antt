@@ -1,5 +1,7 @@
 -- A runner, and the run with its levels given back.
-use Rattle.std.proofs.Common.{◌≡◌, ℕ, ◌+◌, ◌≤◌, Bool, false, List, [], ◌∷◌, length, Option, Some, Result, refl, sym, ap, ◌∙◌, subst, arith}
+use Rattle.std.proofs.Common.{◌≡◌, ℕ, ◌+◌, ◌<◌, ◌≤◌, Bool, true, false, List, [], ◌∷◌, length, Option, Some, None, Result, refl, sym, ap, ◌∙◌, subst, arith}
+use Rattle.std.specs.Prelude.{slice_get, unwrap_or}
+use Rattle.std.proofs.lemmas.Option.{same_Some, slice_get_within}
 use Rattle.rand_core.specs.Stream.{Stream}
 use Rattle.script_words.specs.declared.stops.Stop.{Stop}
 use Rattle.scratch_values.specs.Named.{Arguments}
@@ -16,24 +18,27 @@ use Rattle.machine_spec.specs.Step.{Moment}
 use Rattle.machine_spec.specs.Tasks.{Task}
 use Rattle.machine_spec.specs.World.{World}
 use Rattle.cached_blocks.specs.declared.block.CachedBlock.{CachedBlock}
+use Rattle.project_spec.specs.declared.blocks.Block.{Block}
 use Rattle.project_check.specs.declared.project.Project.{Project}
+use Rattle.project_check.specs.Loaded.{blocks_at, tables_of}
 use Rattle.thread_frames.specs.declared.level.Level.{Level}
 use Rattle.thread_frames.specs.Levels.{on_top, with_context, top_block, top_context, near_params}
 use Rattle.thread_frames.specs.Threads.{Thread, frames, levels_of, listed, on_levels}
+use Rattle.thread_frames.specs.Fit.{IsReadyAt}
 use Rattle.thread_frames.specs.Counting.{open_in}
 use Rattle.thread_frames.proofs.Counts.{length-on_top, open_in-put}
 use Rattle.thread_moves.specs.Standing.{is_ended}
-use Rattle.executions.specs.declared.running.Runner.{Runner}
+use Rattle.executions.specs.declared.runner.Runner.{Runner}
 use Rattle.executions.specs.declared.state.State.{State}
-use Rattle.executions.specs.declared.stepping.Next.{Next}
+use Rattle.executions.specs.declared.execution.Next.{Next}
 use Rattle.executions.specs.Nexts.{next_of}
-use Rattle.executions.specs.Ready.{IsReady}
+use Rattle.executions.specs.Ready.{IsReady, IsReadyUnless, IsAfter}
 use Rattle.executions.specs.Rows.{RowGoes, RowStops, Leaves, Acts}
-use Rattle.executions.specs.Runners.{IsApart, IsRunner, after_runner, given_back, given_unless, next_block, with_runner}
-use Rattle.executions.specs.Seen.{seen}
+use Rattle.executions.specs.Runners.{IsApart, IsRunner, IsRunnerUnless, IsRunnerAfter, RunsAt, after_runner, given_back, given_unless, next_block, with_runner}
+use Rattle.executions.specs.Seen.{seen, sheets}
 use Rattle.executions.proofs.Apart.{whole, back_is, back_at, back_levels, back_place, back_next}
 use Rattle.executions.proofs.Placing.{on_is, on_again, place_put, put_at, put_put, put_self}
-use Rattle.executions.proofs.Taking.{put_listed}
+use Rattle.executions.proofs.Taking.{holds_by, put_listed}
 
 -- what is listed of the threads says nothing of levels
 pub back_listed : (r : Runner) (ts : Places Thread) → IsApart r ts → listed (given_back r ts) ≡ listed ts
@@ -93,12 +98,31 @@ module _ (r : Runner) (ls : List Level) (taken : ls ≡ on_top (with_context Fre
   pub left_block : top_block ls ≡ top_block r.levels
   left_block = ap top_block taken ∙ block_by r.levels
 
+row_there : (tables : List (List Block)) (t k : ℕ) (o : Option (List Block)) → slice_get tables t ≡ o → k < length (unwrap_or o []) → t < length tables
+row_there tables t k None e h = absurd (omega (arith, h))
+row_there tables t k (Some blocks) e h = slice_get_within tables t blocks e
+
 module _ {R : Type 0} (p : Project) (i k : ℕ) (r : Runner) (w : State R) (runs : IsRunner p i r w) (top : top_block r.levels ≡ Some k) where
   pub at_place_is : r.which ≡ place i (with_runner r w).threads
   at_place_is = back_place r w.threads runs.apart i runs.place_is
 
   pub next_is : next_of (at_place r.which (with_runner r w).threads) ≡ Some (next_block r k)
   next_is = back_next r w.threads runs.apart k top
+
+  whole_is : runs.ready.thread ≡ whole r w.threads runs.apart
+  whole_is = same_Some runs.ready.thread (whole r w.threads runs.apart) (sym (ap (λ z. at_place z (given_back r w.threads)) at_place_is ∙ runs.ready.found) ∙ back_at r w.threads runs.apart)
+
+  ready_here : IsReadyAt (sheets p r.target) r.levels
+  ready_here =
+      subst (λ t. IsReadyAt (sheets p t) r.levels) (sym runs.apart.target_is)
+      (subst (λ (t : Thread). IsReadyAt (sheets p t.target) t.levels) whole_is runs.ready.ready)
+
+  member_here : k < length (blocks_at r.target p)
+  member_here = let holds = holds_by (sheets p r.target) r.levels k ready_here top in slice_get_within (blocks_at r.target p) k holds.block holds.found
+
+  -- so it is about to execute that block, which is one of the target's
+  pub runs_at : RunsAt p i r w k
+  runs_at = record { runs = runs; top = top; held = row_there (tables_of p) r.target k (slice_get (tables_of p) r.target) refl member_here; member = member_here }
 
   pub near_is : (ps : Option Params) → ps ≡ near_params r.levels → ps ≡ near_params (levels_of (at_place r.which (with_runner r w).threads))
   near_is ps e = e ∙ ap near_params (sym (back_levels r w.threads runs.apart))
@@ -120,6 +144,16 @@ acts_to stream p i k late control w report x y e acts = subst (λ z. Acts stream
 -- a thread that has not ended is a runner again
 pub again : {R : Type 0} (report : Report) (r : Runner) (w old : State R) → is_ended report ≡ false → with_runner r w ≡ old → old ≡ after_runner report r w
 again report r w old e same = sym same ∙ ap (λ b. record w { threads = given_unless b r w.threads }) (sym e)
+
+pub again_after : {R : Type 0} (p : Project) (i : ℕ) (report : Report) (r : Runner) (w : State R) → is_ended report ≡ false → IsRunner p i r w → IsRunnerAfter p i report r w
+again_after p i report r w e runs = subst (λ b. IsRunnerUnless b p i r w) (sym e) runs
+
+-- a thread that has ended is none
+pub gone : {R : Type 0} (report : Report) (r : Runner) (w : State R) → is_ended report ≡ true → w ≡ after_runner report r w
+gone report r w e = ap (λ b. record w { threads = given_unless b r w.threads }) (sym e)
+
+pub gone_after : {R : Type 0} (p : Project) (i : ℕ) (report : Report) (r : Runner) (w : State R) → is_ended report ≡ true → IsAfter p i report w → IsRunnerAfter p i report r w
+gone_after p i report r w e after = subst (λ b. IsRunnerUnless b p i r w) (sym e) (subst (λ b. IsReadyUnless b p i w) e after)
 
 -- the running thread, the levels of which are taken
 module _ {R : Type 0} (p : Project) (i : ℕ) (w : State R) (ready : IsReady p i w) (which : Which) (at : which ≡ place i w.threads) (levels : List Level) (levels_are : levels ≡ levels_of (at_place which w.threads)) (mid : Places Thread)

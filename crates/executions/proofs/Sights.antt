@@ -25,12 +25,13 @@ use Rattle.thread_frames.specs.Threads.{Thread, begins_with, frames, finish}
 use Rattle.thread_frames.specs.Fit.{Fits}
 use Rattle.project_check.specs.declared.project.Project.{Project}
 use Rattle.project_check.specs.Loaded.{ranks_at}
+use Rattle.project_check.proofs.Linked.{ranked_at}
 use Rattle.hats.specs.Heads.{target_of, IsHeadOf}
 use Rattle.executions.specs.Seen.{sheets}
 use Rattle.executions.specs.Ready.{AllFit}
 use Rattle.executions.proofs.Counted.{depth_is}
 use Rattle.executions.proofs.Natural.{Sees, seen_out}
-use Rattle.executions.proofs.Ranks.{ranks_here, no_block}
+use Rattle.executions.proofs.Absent.{no_block}
 
 -- the script of a block is to be done
 
@@ -48,7 +49,7 @@ new_items sheet ranks (Some k) t falls h =
 
 module _ (p : Project) (is : List Instance) where
   begun_items : (x : Pair) → IsHeadOf p is x → pending (sheets p (target_of x)) (new_level (begins_with x.head.script) false ∷ []) ≡ dos x.head.script
-  begun_items x h = new_items (sheets p (target_of x)) (ranks_at (target_of x) p) (begins_with x.head.script) x.head.script (ranks_here p (target_of x) h.there) h.begins
+  begun_items x h = new_items (sheets p (target_of x)) (ranks_at (target_of x) p) (begins_with x.head.script) x.head.script (ranked_at p (target_of x)) h.begins
 
   one_level : (t : Script) → markers (dos t) + 1 ≡ 1
   one_level End = refl

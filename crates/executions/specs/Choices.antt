@@ -12,8 +12,8 @@ use Rattle.machine_spec.specs.declared.threads.Context.{Context}
 use Rattle.machine_spec.specs.declared.threads.Context.TheVariants.{Fresh}
 use Rattle.machine_spec.specs.declared.threads.Control.{Control}
 use Rattle.machine_spec.specs.declared.threads.Control.TheVariants.{Branch, Next}
-use Rattle.executions.specs.declared.choosing.Choice.{Choice}
-use Rattle.executions.specs.declared.choosing.Choice.TheVariants.{Enter, Pass}
+use Rattle.executions.specs.declared.choices.Choice.{Choice}
+use Rattle.executions.specs.declared.choices.Choice.TheVariants.{Enter, Pass}
 
 -- the control of such a block; None of all others
 abbrev pub chosen : Opcode → Arguments → Option Control

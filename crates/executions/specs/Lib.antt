@@ -1,4 +1,5 @@
 pub mod Seen
+pub mod Blocks
 pub mod Ready
 pub mod Moves
 pub mod Rows
@@ -6,3 +7,4 @@ pub mod Nexts
 pub mod Resting
 pub mod Runners
 pub mod Choices
+pub mod Answers

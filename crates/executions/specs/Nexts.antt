@@ -2,7 +2,7 @@
 use Rattle.std.specs.Prelude.{ℕ, Option, Some, None}
 use Rattle.thread_frames.specs.Levels.{top_block}
 use Rattle.thread_frames.specs.Threads.{Thread}
-use Rattle.executions.specs.declared.stepping.Next.{Next}
+use Rattle.executions.specs.declared.execution.Next.{Next}
 
 abbrev pub next_by : Thread → Option ℕ → Option Next
 next_by t None = None

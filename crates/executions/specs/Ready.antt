@@ -1,12 +1,11 @@
 -- What a run keeps between executions.
 use Rattle.std.specs.Prelude.{◌≡◌, ℕ, ◌≤◌, ◌<◌, ◌^◌, Bool, true, false, List, length, Some, None}
-use Rattle.looks_blocks.specs.Live.{HasOneEach}
+use Rattle.targets.specs.Live.{HasOneEach, IsLive, target_of}
 use Rattle.machine_spec.specs.Stores.{Variables, live}
 use Rattle.machine_spec.specs.Threads.{is_done}
 use Rattle.machine_spec.specs.Places.{Places, running, Everyone}
 use Rattle.machine_spec.specs.declared.instance.Instance.{Instance}
 use Rattle.machine_spec.specs.declared.threads.Report.{Report}
-use Rattle.targets.specs.Live.{IsLive, target_of}
 use Rattle.variables.specs.Held.{HasNoStore}
 use Rattle.thread_frames.specs.Fit.{Fits, IsReadyAt}
 use Rattle.thread_frames.specs.Threads.{Thread}

@@ -1,8 +1,13 @@
 -- The row of a block on a run; the contracts of private functions alone cite these.
-use Rattle.std.specs.Prelude.{◌≡◌, ℕ, ◌==◌, ◌||◌, nat_lt, Bool, true, List, ◌++◌, map, Some, Result}
+use Rattle.std.specs.Prelude.{◌≡◌, ℕ, ◌==◌, ◌||◌, nat_lt, Bool, true, false, List, ◌++◌, length, map, Some, Result}
 use Rattle.rand_core.specs.Stream.{Stream}
+use Rattle.opcode_table.specs.Kinds.{kind}
+use Rattle.opcode_table.specs.declared.opcode.Opcode.{Opcode}
+use Rattle.block_arguments.specs.Afresh.{was_afresh}
 use Rattle.scratch_values.specs.Named.{Arguments}
 use Rattle.script_words.specs.declared.stops.Stop.{Stop}
+use Rattle.machine_spec.specs.Keeping.{control_fits}
+use Rattle.machine_spec.specs.Laws.{is_own}
 use Rattle.machine_spec.specs.Outcome.{Outcome, Goes, then_do, StopIs}
 use Rattle.machine_spec.specs.Script.{Script, Then, Statement, Command, command_of}
 use Rattle.machine_spec.specs.declared.threads.Context.{Context}
@@ -23,7 +28,7 @@ use Rattle.thread_frames.specs.Reading.{beneath, task}
 use Rattle.thread_frames.specs.Threads.{Thread, listed}
 use Rattle.executions.specs.declared.state.State.{State}
 use Rattle.variables.specs.Held.{HasNoStore}
-use Rattle.looks_blocks.specs.Live.{HasOneEach}
+use Rattle.targets.specs.Live.{HasOneEach}
 use Rattle.executions.specs.Ready.{HasSameTargets}
 use Rattle.executions.specs.Seen.{sheets, seen}
 
@@ -62,6 +67,19 @@ pub record Leaves {R : Type 0} (old new : State R) : Type 0 where
 abbrev pub may_clone : (here originals : ℕ) → Control → Bool
 may_clone here originals (Clone original) = original == here || nat_lt original originals
 may_clone here originals _ = true
+
+-- what the row of a block leaves to its control
+pub record LeavesTo {R : Type 0} (p : Project) (op : Opcode) (here : ℕ) (old_context : Context) (old : State R) (new_context : Context) (new : State R) (control : Control) : Type 0 where
+  -- the control is one that the block's kind can give, with what the block keeps
+  pub fits : control_fits control (kind op) new_context ≡ true
+  -- where it acts on others the block keeps nothing
+  pub own : is_own control ≡ false → new_context ≡ Fresh
+  -- nor had it kept anything
+  pub afresh : is_own control ≡ false → was_afresh (kind op) old_context ≡ true
+  -- where it makes a clone it is one of the instance or of an original
+  pub clones : may_clone here (length (program_of p).records.targets) control ≡ true
+  -- the rest of the run
+  pub left : Leaves old new
 
 -- the row of a thread's statement with these arguments, and what its control does
 abbrev pub enacts : {R : Type 0} → (R → Stream) → Project → (i : ℕ) → (late : Bool) → Thread → Statement → List Item → Arguments → State R → Outcome (Moment (World Task))

@@ -1,16 +1,18 @@
 -- The running thread with its levels apart from the list of threads.
-use Rattle.std.specs.Prelude.{◌≡◌, ℕ, ◌≤◌, ◌+◌, Bool, true, false, [], length, Some}
+use Rattle.std.specs.Prelude.{◌≡◌, ℕ, ◌<◌, ◌≤◌, ◌+◌, Bool, true, false, [], length, Some}
 use Rattle.machine_spec.specs.Outcome.{most_levels}
 use Rattle.machine_spec.specs.declared.threads.Report.{Report}
 use Rattle.machine_spec.specs.Places.{Places, at_place, place, on_place}
 use Rattle.machine_spec.specs.Starting.{open_levels}
 use Rattle.machine_spec.specs.Tasks.{status_after}
+use Rattle.thread_frames.specs.Levels.{top_block}
 use Rattle.thread_frames.specs.Threads.{Thread, frames, on_levels, with_status}
 use Rattle.thread_moves.specs.Standing.{is_ended}
 use Rattle.project_check.specs.declared.project.Project.{Project}
-use Rattle.executions.specs.declared.running.Runner.{Runner}
+use Rattle.project_check.specs.Loaded.{blocks_at, tables_of}
+use Rattle.executions.specs.declared.runner.Runner.{Runner}
 use Rattle.executions.specs.declared.state.State.{State}
-use Rattle.executions.specs.declared.stepping.Next.{Next}
+use Rattle.executions.specs.declared.execution.Next.{Next}
 use Rattle.executions.specs.Ready.{IsKept, IsReady}
 
 -- the threads with the levels given back
@@ -52,6 +54,17 @@ abbrev pub IsRunnerAfter : {R : Type 0} → Project → (i : ℕ) → Report →
 IsRunnerAfter p i report r s = IsRunnerUnless (is_ended report) p i r s
 
 -- Private functions alone cite these
+
+-- the runner is about to execute block k
+pub record RunsAt {R : Type 0} (p : Project) (i : ℕ) (r : Runner) (s : State R) (k : ℕ) : Type 0 where
+  -- it is the thread that runs while slot i is visited
+  pub runs : IsRunner p i r s
+  -- its top level holds the block
+  pub top : top_block r.levels ≡ Some k
+  -- its target is one of the project's
+  pub held : r.target < length (tables_of p)
+  -- the block is one of the target's
+  pub member : k < length (blocks_at r.target p)
 
 -- what the runner executes next, which is block k
 abbrev pub next_block : Runner → ℕ → Next

@@ -1,20 +1,16 @@
 //! The rows of blocks on the parts of a run.
 
-ghost use Rattle.std.specs.Prelude.{◌≡◌, ◌||◌, [], ◌∷◌, ℕ, length, true, false, IfOk, OnOk};
+ghost use Rattle.std.specs.Prelude.{◌≡◌, ◌||◌, [], ◌∷◌, ℕ, IfOk, OnOk};
 ghost use Rattle.scratch_values.specs.Args.{arguments};
 ghost use Rattle.scratch_values.specs.Held.{pair_of};
-ghost use Rattle.opcode_table.specs.Kinds.{kind, group};
+ghost use Rattle.opcode_table.specs.Kinds.{group};
 ghost use Rattle.opcode_table.specs.declared.grouping.Group.TheVariants as group_of;
 ghost use Rattle.machine_spec.specs.declared.threads.Control.TheVariants.{Next};
-ghost use Rattle.machine_spec.specs.Keeping.{control_fits};
-ghost use Rattle.machine_spec.specs.Laws.{is_own};
 ghost use Rattle.machine_spec.specs.declared.threads.Context.{Context as Kept};
 ghost use Rattle.machine_spec.specs.declared.threads.Context.TheVariants.{Fresh};
-ghost use Rattle.control_blocks.specs.Afresh.{was_afresh};
-ghost use Rattle.project_check.specs.Loaded.{program_of};
 ghost use Rattle.targets.specs.Live.{IsLive};
 ghost use Rattle.executions.specs.Ready.{ArePeopled};
-ghost use Rattle.executions.specs.Rows.{RowGoes, RowStops, Leaves, may_clone};
+ghost use Rattle.executions.specs.Rows.{Leaves, LeavesTo, RowGoes, RowStops};
 
 use crate::state::State;
 use cached_blocks::CachedBlock;
@@ -102,9 +98,7 @@ impl<R: Rng + Drop> State<R> {
     ) -> Result<(Control, Context), Stop>
         requires { group block.now.op ≡ group_of.Motion }
         ensures ok { IfOk result (λ r. (thread : ℕ) → RowGoes R.stream project.now block.now args.entry.now here thread context self.old r.1 self.new r.0) }
-        ensures fits { IfOk result (λ r. control_fits r.0 (kind block.now.op) r.1 ≡ true) }
-        ensures own { IfOk result (λ r. is_own r.0 ≡ true) }
-        ensures kept { IfOk result (λ r. Leaves self.old self.new) }
+        ensures kept { IfOk result (λ r. LeavesTo project.now block.now.op here context self.old r.1 self.new r.0) }
         ensures stop { (thread : ℕ) → RowStops R.stream project.now block.now args.entry.now here thread context self.old result }
     {
         let mut kept = context;
@@ -142,11 +136,7 @@ impl<R: Rng + Drop> State<R> {
         requires people { ArePeopled project.now self.old.next_instance self.old.targets }
         requires live { IsLive here self.old.targets }
         ensures ok { IfOk result (λ r. RowGoes R.stream project.now block.now args.entry.now here thread context self.old r.1 self.new r.0) }
-        ensures fits { IfOk result (λ r. control_fits r.0 (kind block.now.op) r.1 ≡ true) }
-        ensures own { IfOk result (λ r. is_own r.0 ≡ false → r.1 ≡ Fresh) }
-        ensures clones { IfOk result (λ r. may_clone here (length (program_of project.now).records.targets) r.0 ≡ true) }
-        ensures afresh { IfOk result (λ r. is_own r.0 ≡ false → was_afresh (kind block.now.op) context ≡ true) }
-        ensures kept { IfOk result (λ r. Leaves self.old self.new) }
+        ensures kept { IfOk result (λ r. LeavesTo project.now block.now.op here context self.old r.1 self.new r.0) }
         ensures stop { RowStops R.stream project.now block.now args.entry.now here thread context self.old result }
     {
         let mut kept = context;
@@ -184,11 +174,7 @@ impl<R: Rng + Drop> State<R> {
     ) -> Result<(Control, Context), Stop>
         requires { group block.now.op ≡ group_of.Control }
         ensures ok { IfOk result (λ r. RowGoes R.stream project.now block.now args.entry.now here thread context self.old r.1 self.new r.0) }
-        ensures fits { IfOk result (λ r. control_fits r.0 (kind block.now.op) r.1 ≡ true) }
-        ensures own { IfOk result (λ r. is_own r.0 ≡ false → r.1 ≡ Fresh) }
-        ensures clones { IfOk result (λ r. may_clone here (length (program_of project.now).records.targets) r.0 ≡ true) }
-        ensures afresh { IfOk result (λ r. is_own r.0 ≡ false → was_afresh (kind block.now.op) context ≡ true) }
-        ensures kept { IfOk result (λ r. Leaves self.old self.new) }
+        ensures kept { IfOk result (λ r. LeavesTo project.now block.now.op here context self.old r.1 self.new r.0) }
         ensures stop { RowStops R.stream project.now block.now args.entry.now here thread context self.old result }
     {
         let mut kept = context;
@@ -226,11 +212,7 @@ impl<R: Rng + Drop> State<R> {
         requires people { ArePeopled project.now self.old.next_instance self.old.targets }
         requires live { IsLive here self.old.targets }
         ensures ok { IfOk result (λ r. RowGoes R.stream project.now block.now args.entry.now here thread context self.old r.1 self.new r.0) }
-        ensures fits { IfOk result (λ r. control_fits r.0 (kind block.now.op) r.1 ≡ true) }
-        ensures own { IfOk result (λ r. is_own r.0 ≡ false → r.1 ≡ Fresh) }
-        ensures clones { IfOk result (λ r. may_clone here (length (program_of project.now).records.targets) r.0 ≡ true) }
-        ensures afresh { IfOk result (λ r. is_own r.0 ≡ false → was_afresh (kind block.now.op) context ≡ true) }
-        ensures kept { IfOk result (λ r. Leaves self.old self.new) }
+        ensures kept { IfOk result (λ r. LeavesTo project.now block.now.op here context self.old r.1 self.new r.0) }
         ensures stop { RowStops R.stream project.now block.now args.entry.now here thread context self.old result }
     {
         match group(block.op) {

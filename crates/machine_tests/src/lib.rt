@@ -8,7 +8,7 @@ mod frames_tests;
 #[cfg(test)]
 mod hats_tests;
 #[cfg(test)]
-mod input_lines_tests;
+mod lines_tests;
 #[cfg(test)]
 mod sequencer_tests;
 #[cfg(test)]

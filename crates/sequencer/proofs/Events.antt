@@ -22,7 +22,7 @@ use Rattle.machine_spec.specs.declared.threads.Filter.{Filter}
 use Rattle.machine_spec.specs.declared.threads.Filter.TheVariants.{Key as KeyHats, Flag, Clicked}
 use Rattle.machine_spec.specs.Line.{started, key_name, with_key, with_keys, key_down, reset, clicked, with_answer, answered, after}
 use Rattle.machine_spec.specs.World.{World}
-use Rattle.input_lines.specs.Frames.{is_frame}
+use Rattle.sequencer.specs.Frames.{is_frame}
 use Rattle.script_words.specs.declared.stops.CounterKind.{CounterKind}
 
 -- Outcomes

@@ -1,2 +1,3 @@
+mod Stopping
 pub mod Events
 pub mod Legal

@@ -11,8 +11,8 @@ ghost use Rattle.laws_of_worlds.specs.Runs.{KeepsLegal, OpensLegal};
 ghost use Rattle.executions.specs.Resting.{IsIdle};
 ghost use Rattle.project_check.specs.Loaded.{program_of};
 ghost use Rattle.sequencer.specs.Runs.{world_of, IsRunOf};
-ghost use Rattle.input_lines.specs.Frames.{is_frame};
-ghost use Rattle.input_lines.specs.Stops.{IsOfLinesOrMemory};
+ghost use Rattle.sequencer.specs.Frames.{is_frame};
+ghost use Rattle.sequencer.specs.Stops.{IsOfLinesOrMemory};
 
 use devices::Devices;
 use executions::State;
@@ -69,7 +69,7 @@ impl<R: Rng + Drop> Run<R> {
         ensures legal { OnOk result (KeepsLegal (program_of project.now) line.now (world_of R.stream project.now self.old) (world_of R.stream project.now self.new)) }
     {
         every_line_keeps_it_legal();
-        input_lines::apply_line(&mut self.state, self.alloc, project, line)
+        crate::lines::apply_line(&mut self.state, self.alloc, project, line)
     }
 
     /// Makes a frame: the clock is set, due bubble timers end, edge hats are evaluated, and passes are made (scratch-vm,

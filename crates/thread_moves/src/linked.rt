@@ -17,8 +17,6 @@ pub(crate) fn linked(project: &Project, target: TargetId, id: BlockId) -> &Cache
     ensures block { slice_get (cached_blocks (sheet_at target project.now)) id ≡ Some result.now }
     ensures ranked { IsRanked (sheet_at target project.now) }
 {
-    let _rank = project.rank(target, id);
-    let _closed = project.blocks(target);
     project.cached(target, id)
 }
 

@@ -5,6 +5,7 @@ use Rattle.machine_spec.specs.Outcome.{Goes, StopIs, then_do}
 use Rattle.machine_spec.specs.Words.{seen_words, made_of}
 use Rattle.machine_spec.specs.Evaluate.{value}
 use Rattle.project_check.specs.Loaded.{ranks_at}
+use Rattle.project_check.proofs.Linked.{ranked_at}
 use Rattle.evaluate.specs.Plugged.{ArePluggedIn}
 use Rattle.evaluate.specs.Seen.{seen, sheet_of, input_values, arguments_at}
 use Rattle.evaluate.proofs.Plugged.{plugged-at}
@@ -62,7 +63,7 @@ by_arguments-returns-clause-stop g t c =
     let start = seen_words g.R.Rng.stream c.args.words.now in
     let block = c.linked-block.result.now in
     let stop = c.in-Err.stop in
-    let told = c.an_expression_is_told.ensures (sheet_of v) (ranks_at v.target v.project.now) c.args.id block c.rank-ranks.ensures.ranks c.requires.is c.linked-block.ensures.block in
+    let told = c.an_expression_is_told.ensures (sheet_of v) (ranks_at v.target v.project.now) c.args.id block (ranked_at v.project.now v.target) c.requires.is c.linked-block.ensures.block in
     let here : Stops stop (arguments_at v c.args.id start) = subst (λ r. StopIs r (arguments_at v c.args.id start)) c.in-Err.is c.arguments-outcome.ensures.stop in
     let args = subst (λ o. Stops stop o) (arguments-here v c.args.id block c.linked-block.ensures.block start) here in
     let inputs = stop-made stop (input_values v block.inputs start) (λ xs. arguments xs block.fields) args in

@@ -5,6 +5,7 @@ use Rattle.machine_spec.specs.Evaluate.{evaluated}
 use Rattle.machine_spec.specs.Outcome.{Goes, then_do}
 use Rattle.machine_spec.specs.Words.{made_of}
 use Rattle.project_check.specs.Loaded.{ranks_at}
+use Rattle.project_check.proofs.Linked.{closed_at, ranked_at}
 use Rattle.evaluate.specs.Seen.{seen, sheet_of, input_values, inputs_of}
 use Rattle.evaluate.proofs.Values.{arguments-here, evaluated-told}
 use Rattle.evaluate.proofs.sole.no_inputs.Goals as goal
@@ -17,7 +18,7 @@ pub returns : goal.returns
 returns c = λ s rest w e.
     let v = c.args.view.now in
     let block = c.linked-cached.result.now in
-    let told = c.a_script_is_told.ensures (sheet_of v) (ranks_at v.target v.project.now) c.args.block block c.rank-ranks.ensures.ranks c.blocks-closed.ensures.closed c.linked-cached.ensures.block in
+    let told = c.a_script_is_told.ensures (sheet_of v) (ranks_at v.target v.project.now) c.args.block block (ranked_at v.project.now v.target) (closed_at v.project.now v.target) c.linked-cached.ensures.block in
     let same : told.0 ≡ s = cc (told.1, e) in
     let none : block.inputs ≡ [] = none-left block.inputs (ap (λ o. length (inputs_of o)) (sym c.linked-cached.ensures.block) ∙ c.requires.none) in
     ap (λ t. evaluated (seen v) t w) (sym same) ∙ evaluated-told v c.args.block block c.linked-cached.ensures.block w told.0 told.2

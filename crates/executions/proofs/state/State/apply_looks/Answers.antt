@@ -3,7 +3,7 @@ use Rattle.std.proofs.Common.{length, refl, sym, subst}
 use Rattle.std.specs.Prelude.{All}
 use Rattle.machine_spec.specs.Program.{Records, stage_number}
 use Rattle.machine_spec.specs.Stores.{instance_at}
-use Rattle.project_check.specs.Kept.{IsDressed}
+use Rattle.target_records.specs.Costumes.{IsDressed}
 use Rattle.project_check.specs.Loaded.{program_of}
 use Rattle.looks_blocks.specs.Costumes.{HasCostumes}
 use Rattle.executions.proofs.Clonable.{looks_clones}
@@ -24,15 +24,18 @@ apply-requires-clause-backdrops g c =
     subst (λ (r : Records). HasCostumes r (instance_at (stage_number r) s.targets)) (sym c.records.ensures.records)
     (has_backdrops c.args.project.now dressed s.next_instance s.targets c.requires.people c.args.here c.requires.live)
 
-pub returns-in-Ok-clause-clones : goal.returns-in-Ok-clause-clones
-returns-in-Ok-clause-clones g c = looks_clones c.args.here (length (program_of c.args.project.now).records.targets) c.in-Ok.control c.in-Ok.ensures.starts
-
 pub returns-in-Ok-clause-kept : goal.returns-in-Ok-clause-kept
 returns-in-Ok-clause-kept g c = record {
-  threads = refl;
-  next_thread = refl;
-  next_instance = refl;
-  targets = c.apply.ensures.targets;
-  one_each = λ h. c.apply.ensures.one_each;
-  free = λ n e. e;
+  fits = c.in-Ok.ensures.fits;
+  own = c.in-Ok.ensures.own;
+  afresh = c.in-Ok.ensures.afresh;
+  clones = looks_clones c.args.here (length (program_of c.args.project.now).records.targets) c.in-Ok.control c.in-Ok.ensures.starts;
+  left = record {
+    threads = refl;
+    next_thread = refl;
+    next_instance = refl;
+    targets = c.apply.ensures.targets;
+    one_each = λ h. c.apply.ensures.one_each;
+    free = λ n e. e;
+  };
 }

@@ -1,4 +1,0 @@
-pub mod Valued
-pub mod Noted
-pub mod Listing
-pub mod Passed

@@ -1,0 +1,13 @@
+-- The levels of the runner are moved.
+use Rattle.std.proofs.Common.{refl, ap, ◌∙◌, ◌∷◌}
+use Rattle.machine_spec.specs.Places.{on_place}
+use Rattle.thread_frames.specs.Threads.{with_status}
+use Rattle.machine_spec.specs.Pending.{kept}
+use Rattle.executions.proofs.Apart.{moves_on}
+use Rattle.executions.proofs.runner_moves.stay.Goals as goal
+
+pub returns-clause-at : goal.returns-clause-at
+returns-clause-at c =
+    moves_on c.args.project.now c.args.id c.args.runner.now _ c.args.threads.now c.set_status.new.self c.stay-report.result c.requires.apart refl
+    (c.set_status.ensures ∙ ap (λ s. on_place (with_status s) c.args.runner.now.which c.args.threads.now) c.status_after.ensures)
+    (λ s rest warp. record { items = kept s c.args.context ∷ rest; warp = warp; report = c.args.report }) c.stay-report.ensures.at

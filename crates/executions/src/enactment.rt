@@ -1,0 +1,271 @@
+//! What the block of the running thread does, its inputs being evaluated.
+
+ghost use Rattle.std.specs.Prelude.{◌≡◌, [], ◌∷◌, ℕ, false};
+ghost use Rattle.opcode_table.specs.Kinds.{group};
+ghost use Rattle.opcode_table.specs.declared.grouping.Group.TheVariants as group_of;
+ghost use Rattle.scratch_values.specs.Args.{arguments};
+ghost use Rattle.scratch_values.specs.Held.{pair_of};
+ghost use Rattle.machine_spec.specs.Keeping.{control_fits};
+ghost use Rattle.machine_spec.specs.Laws as laws;
+ghost use Rattle.machine_spec.specs.declared.threads.Context.TheVariants.{Fresh};
+ghost use Rattle.machine_spec.specs.declared.threads.Control.TheVariants.{Branch, Clone, Next as Passes};
+ghost use Rattle.targets.specs.Live.{IsLive};
+ghost use Rattle.thread_moves.specs.Standing.{is_ended as has_ended};
+ghost use Rattle.executions.specs.Answers.{Answers, Chooses};
+ghost use Rattle.executions.specs.Blocks.{HasKind, IsBlock};
+ghost use Rattle.executions.specs.Choices.{IsChosen, chosen};
+ghost use Rattle.executions.specs.Rows.{Acts, Enacts};
+ghost use Rattle.executions.specs.Runners.{RunsAt, with_runner};
+
+use crate::choices::{Choice, way_chosen, way_chosen_by};
+use crate::own_controls::is_own;
+use crate::runner::{Runner, give_back};
+use crate::runner_moves::{enter, go_on};
+use crate::state::State;
+use cached_blocks::CachedBlock;
+use machine_spec::{BlockId, Context, Control, Report};
+use opcode_table::{Group, group};
+use project_check::Project;
+use scratch_values::{Arg, Args};
+use script_words::{Rng, Stop};
+use std::alloc::Global;
+
+// Whether the thread has ended that reports this.
+fn is_ended(report: Report) -> bool
+    ensures { result ≡ has_ended report }
+{
+    matches!(report, Report::Ended)
+}
+
+impl<R: Rng + Drop> State<R> {
+    // The row of a block of data, behind which the runner goes on.
+    #[inline]
+    fn enact_data(
+        &mut self,
+        project: &Project,
+        slot: u64,
+        runner: &mut Runner,
+        id: BlockId,
+        block: &CachedBlock,
+        args: &Args<'_>,
+        late: bool,
+    ) -> Result<Report, Stop>
+        requires at { RunsAt project.now slot runner.old self.old id }
+        requires block { IsBlock project.now runner.old.target id block.now }
+        requires group { group block.now.op ≡ group_of.Data }
+        ensures { Answers R.stream project.now slot (Enacts R.stream project.now slot id late args.entry.now (with_runner runner.old self.old)) result runner.new self.new }
+    {
+        match self.apply_data(project, block, args, runner.here) {
+            Ok(()) => Ok(go_on(project, &mut self.threads, runner, id)),
+            Err(stop) => Err(stop),
+        }
+    }
+
+    // The row of a block of data that has one input, behind which the runner goes on.
+    #[inline]
+    pub(crate) fn enact_data_one(
+        &mut self,
+        project: &Project,
+        slot: u64,
+        runner: &mut Runner,
+        id: BlockId,
+        block: &CachedBlock,
+        first: Arg<'_>,
+        late: bool,
+    ) -> Result<Report, Stop>
+        requires at { RunsAt project.now slot runner.old self.old id }
+        requires block { IsBlock project.now runner.old.target id block.now }
+        requires group { group block.now.op ≡ group_of.Data }
+        ensures { Answers R.stream project.now slot (Enacts R.stream project.now slot id late (arguments (pair_of first.entry ∷ []) block.now.fields) (with_runner runner.old self.old)) result runner.new self.new }
+    {
+        match self.apply_data_one(project, block, first, runner.here) {
+            Ok(()) => Ok(go_on(project, &mut self.threads, runner, id)),
+            Err(stop) => Err(stop),
+        }
+    }
+
+    // A branch that the block of the runner chose is entered.
+    #[inline]
+    pub(crate) fn enter_chosen(
+        &mut self,
+        project: &Project,
+        slot: u64,
+        runner: &mut Runner,
+        id: BlockId,
+        block: &CachedBlock,
+        number: u8,
+        is_loop: bool,
+        late: bool,
+    ) -> Result<Report, Stop>
+        requires at { RunsAt project.now slot runner.old self.old id }
+        requires block { IsBlock project.now runner.old.target id block.now }
+        requires chosen { IsChosen block.now.op (Branch number is_loop) }
+        ensures { Answers R.stream project.now slot (Chooses R.stream project.now slot id late block.now.op (Branch number is_loop) (with_runner runner.old self.old)) result runner.new self.new }
+    {
+        let threads = &mut self.threads;
+        enter(
+            project,
+            threads,
+            runner,
+            id,
+            number,
+            is_loop,
+            Context::Fresh,
+        )
+    }
+
+    // The runner goes on behind its block, which chose no branch.
+    #[inline]
+    pub(crate) fn pass_chosen(
+        &mut self,
+        project: &Project,
+        slot: u64,
+        runner: &mut Runner,
+        id: BlockId,
+        block: &CachedBlock,
+        late: bool,
+    ) -> Report
+        requires at { RunsAt project.now slot runner.old self.old id }
+        requires block { IsBlock project.now runner.old.target id block.now }
+        requires chosen { IsChosen block.now.op Passes }
+        ensures { Answers R.stream project.now slot (Chooses R.stream project.now slot id late block.now.op Passes (with_runner runner.old self.old)) (Ok result) runner.new self.new }
+    {
+        go_on(project, &mut self.threads, runner, id)
+    }
+
+    // What a control does that is not of the runner alone, whose block keeps nothing: its levels are given back before.
+    fn act_apart(
+        &mut self,
+        alloc: Global,
+        project: &Project,
+        slot: u64,
+        runner: &mut Runner,
+        id: BlockId,
+        control: Control,
+        late: bool,
+    ) -> Result<Report, Stop>
+        requires at { RunsAt project.now slot runner.old self.old id }
+        requires own { laws.is_own control ≡ false }
+        requires clones { (original : ℕ) → control ≡ Clone original → IsLive original self.old.targets }
+        requires fits { HasKind project.now runner.old.target id (λ k. control_fits control k Fresh) }
+        ensures { Answers R.stream project.now slot (Acts R.stream project.now slot id late control (with_runner runner.old self.old)) result runner.new self.new }
+    {
+        let which = runner.which;
+        let next = runner.next(id);
+        give_back(alloc, &mut self.threads, runner);
+        match self.act_on_others(alloc, project, slot, which, next, control, late) {
+            Ok(report) => {
+                if !is_ended(report) {
+                    *runner = self.take_runner(project, slot);
+                }
+                Ok(report)
+            }
+            Err(stop) => Err(stop),
+        }
+    }
+
+    // The row of a block that may keep something, and what its control does.
+    fn enact_kept(
+        &mut self,
+        alloc: Global,
+        project: &Project,
+        slot: u64,
+        runner: &mut Runner,
+        id: BlockId,
+        block: &CachedBlock,
+        args: &Args<'_>,
+        late: bool,
+    ) -> Result<Report, Stop>
+        requires at { RunsAt project.now slot runner.old self.old id }
+        requires block { IsBlock project.now runner.old.target id block.now }
+        ensures { Answers R.stream project.now slot (Enacts R.stream project.now slot id late args.entry.now (with_runner runner.old self.old)) result runner.new self.new }
+    {
+        let here = runner.here;
+        let serial = runner.serial;
+        let context = runner.levels.take_context();
+        match self.apply(alloc, project, block, args, here, serial, context) {
+            Ok((control, context)) => {
+                if is_own(&control) {
+                    self.act_own(project, runner, id, control, context, late)
+                } else {
+                    self.act_apart(alloc, project, slot, runner, id, control, late)
+                }
+            }
+            Err(stop) => Err(stop),
+        }
+    }
+
+    // The row of the block of a runner, and what its control does; the inputs were evaluated.
+    #[inline(always)]
+    pub(crate) fn enact(
+        &mut self,
+        alloc: Global,
+        project: &Project,
+        slot: u64,
+        runner: &mut Runner,
+        id: BlockId,
+        args: &Args<'_>,
+        late: bool,
+    ) -> Result<Report, Stop>
+        requires { RunsAt project.now slot runner.old self.old id }
+        ensures { Answers R.stream project.now slot (Enacts R.stream project.now slot id late args.entry.now (with_runner runner.old self.old)) result runner.new self.new }
+    {
+        let block = project.cached(runner.target, id);
+        if matches!(group(block.op), Group::Data) {
+            return self.enact_data(project, slot, runner, id, block, args, late);
+        }
+        match way_chosen(block.op, args) {
+            Some(Choice::Enter { number, is_loop }) => self.enter_chosen(
+                project, slot, runner, id, block, number, is_loop, late,
+            ),
+            Some(Choice::Pass) => { Ok(self.pass_chosen(project, slot, runner, id, block, late)) }
+            None => self.enact_kept(alloc, project, slot, runner, id, block, args, late),
+        }
+    }
+
+    // What a block with one input does that is not of data: a choice by the input alone needs no arguments.
+    #[inline(always)]
+    pub(crate) fn enact_by(
+        &mut self,
+        alloc: Global,
+        project: &Project,
+        slot: u64,
+        runner: &mut Runner,
+        id: BlockId,
+        block: &CachedBlock,
+        first: Arg<'_>,
+        late: bool,
+    ) -> Result<Report, Stop>
+        requires at { RunsAt project.now slot runner.old self.old id }
+        requires block { IsBlock project.now runner.old.target id block.now }
+        ensures { Answers R.stream project.now slot (Enacts R.stream project.now slot id late (arguments (pair_of first.entry ∷ []) block.now.fields) (with_runner runner.old self.old)) result runner.new self.new }
+    {
+        match way_chosen_by(block.op, &first) {
+            Some(Choice::Enter { number, is_loop }) => {
+                self.enter_chosen(project, slot, runner, id, block, number, is_loop, late)
+            }
+            Some(Choice::Pass) => Ok(self.pass_chosen(project, slot, runner, id, block, late)),
+            None => self.enact_one(alloc, project, slot, runner, id, block, first, late),
+        }
+    }
+
+    // The row of a block that is not of data and has one input, and what its control does.
+    #[inline(never)]
+    pub(crate) fn enact_one(
+        &mut self,
+        alloc: Global,
+        project: &Project,
+        slot: u64,
+        runner: &mut Runner,
+        id: BlockId,
+        block: &CachedBlock,
+        first: Arg<'_>,
+        late: bool,
+    ) -> Result<Report, Stop>
+        requires { RunsAt project.now slot runner.old self.old id }
+        ensures { Answers R.stream project.now slot (Enacts R.stream project.now slot id late (arguments (pair_of first.entry ∷ []) block.now.fields) (with_runner runner.old self.old)) result runner.new self.new }
+    {
+        let args = Args::one(block.fields.as_slice(), first);
+        self.enact(alloc, project, slot, runner, id, &args, late)
+    }
+}

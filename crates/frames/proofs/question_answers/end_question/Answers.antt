@@ -1,0 +1,7 @@
+use Rattle.std.proofs.Common.{refl}
+use Rattle.executions.proofs.Keeping.{idle_cast}
+use Rattle.frames.proofs.question_answers.end_question.Goals as goal
+
+pub resume-requires : goal.resume-requires
+resume-requires g c =
+    idle_cast c.args.project.now c.args.state.now (record c.args.state.now { targets = c.first_taken.new.targets; devices = c.first_taken.new.devices }) refl refl refl refl c.requires c.in-Ok.ensures.cast

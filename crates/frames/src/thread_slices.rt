@@ -1,0 +1,149 @@
+//! Slices of executions.
+
+ghost use Rattle.std.specs.Prelude.{◌≡◌, ◌≤◌, ◌<◌, ◌+◌, ◌^◌, IfOk, is_some};
+ghost use Rattle.machine_spec.specs.Outcome.{Goes, StopIs};
+ghost use Rattle.machine_spec.specs.Places.{at_place};
+ghost use Rattle.machine_spec.specs.Slice as machine;
+ghost use Rattle.thread_frames.specs.Levels.{top_block};
+ghost use Rattle.thread_frames.specs.Threads.{levels_of};
+ghost use Rattle.thread_moves.specs.Standing.{is_ended as has_ended};
+ghost use Rattle.project_check.specs.Loaded.{program_of};
+ghost use Rattle.executions.specs.Ready.{IsKept, IsReady};
+ghost use Rattle.executions.specs.Runners.{IsRunnerAfter, after_runner};
+ghost use Rattle.executions.specs.Seen.{seen};
+ghost use Rattle.frames.specs.Turns.{CanTurn};
+
+use executions::{Runner, State};
+use machine_spec::{Report, Which};
+use project_check::Project;
+use script_words::{Rng, Stop};
+use std::alloc::Global;
+use thread_frames::Threads;
+
+// The most executions of a slice.
+const MOST_EXECUTIONS: u32 = 1_000_000;
+
+// The executions that are counted, after one more.
+#[inline]
+fn counted_after(counted: u32, flag: bool) -> u32
+    requires { counted < 2 ^ 31 }
+    ensures value { result ≡ machine.counted_after counted flag }
+    ensures bound { result ≤ counted + 1 }
+{
+    if counted > 0 || flag {
+        counted + 1
+    } else {
+        counted
+    }
+}
+
+// Whether the thread has ended that reports this.
+#[inline]
+fn is_ended(report: Report) -> bool
+    ensures { result ≡ has_ended report }
+{
+    matches!(report, Report::Ended)
+}
+
+// Gives a runner back, unless its thread has ended.
+#[inline]
+fn put_back<R: Rng + Drop>(
+    state: &mut State<R>,
+    project: &Project,
+    slot: u64,
+    runner: Runner,
+    report: Report,
+)
+    requires { IsRunnerAfter project.now slot report runner state.old }
+    ensures { state.new ≡ after_runner report runner state.old }
+{
+    if !is_ended(report) {
+        state.put_runner(runner);
+    }
+}
+
+// Whether a slice goes on behind an execution.
+#[inline]
+fn goes_on(report: Report, before: bool, after: bool, late: bool) -> bool
+    ensures { result ≡ machine.slice_goes_on report before after late }
+{
+    match report {
+        Report::Go => true,
+        Report::Uncovered => after && !late,
+        Report::Yielded => before && !late,
+        Report::Ticked => false,
+        Report::Waits => false,
+        Report::Ended => false,
+    }
+}
+
+/// A slice of the running thread, while the thread of a slot is visited: executions, until it lets other threads run, at
+/// most 1,000,000 (scratch-vm, engine/sequencer.js, stepThread). It goes on behind a yield where the warp flag before it was
+/// true, and at an uncovered loop where the restored flag is true, both while warp time has not passed: while no more
+/// executions than `warp` were counted, from the first at a true flag on. In scratch-vm a slice ends by clock time; here
+/// executions are counted. `Stop` is that of the first execution that stops, and is `NoMemory` only for want of memory.
+/// After a stop nothing is told of the run.
+pub fn slice<R: Rng + Drop>(
+    state: &mut State<R>,
+    alloc: Global,
+    project: &Project,
+    slot: u64,
+    warp: u32,
+) -> Result<(), Stop>
+    requires { IsReady project.now slot state.old }
+    ensures ok { IfOk result (λ _. machine.slice (program_of project.now) warp slot machine.most_executions 0 (seen R.stream project.now state.old) ≡ Goes (seen R.stream project.now state.new)) }
+    ensures stop { StopIs result (machine.slice (program_of project.now) warp slot machine.most_executions 0 (seen R.stream project.now state.old)) }
+    ensures kept { IfOk result (λ _. IsKept project.now state.new) }
+{
+    let mut runner = state.take_runner(project, slot);
+    let mut counted: u32 = 0;
+    let mut before = runner.is_warp();
+    for execution in 0..MOST_EXECUTIONS {
+        match state.step(alloc, project, slot, &mut runner, counted > warp) {
+            Ok(report) => {
+                counted = counted_after(counted, before);
+                let after = runner.is_warp();
+                if !goes_on(report, before, after, counted > warp) {
+                    put_back(state, project, slot, runner, report);
+                    return Ok(());
+                }
+                before = after;
+            }
+            Err(stop) => return Err(stop),
+        }
+    }
+    state.put_runner(runner);
+    Ok(())
+}
+
+// Whether the top level of a thread holds a block.
+fn has_block(threads: &Threads, which: Which) -> bool
+    ensures { result ≡ is_some (top_block (levels_of (at_place which threads.now))) }
+{
+    match threads.level(which, 0) {
+        Some(level) => level.block.is_some(),
+        None => false,
+    }
+}
+
+// The turn of the running thread: a slice; with nothing to do it is done, with no execution.
+pub(crate) fn turn<R: Rng + Drop>(
+    state: &mut State<R>,
+    alloc: Global,
+    project: &Project,
+    slot: u64,
+    warp: u32,
+) -> Result<(), Stop>
+    requires { CanTurn project.now slot state.old }
+    ensures ok { IfOk result (λ _. machine.turn (program_of project.now) warp slot (seen R.stream project.now state.old) ≡ Goes (seen R.stream project.now state.new)) }
+    ensures stop { StopIs result (machine.turn (program_of project.now) warp slot (seen R.stream project.now state.old)) }
+    ensures kept { IfOk result (λ _. IsKept project.now state.new) }
+{
+    let which = state.threads.place(slot);
+    if has_block(&state.threads, which) {
+        slice(state, alloc, project, slot, warp)
+    } else {
+        state.threads.finish(which);
+        Ok(())
+    }
+}

@@ -1,3 +1,0 @@
-pub mod Resumes
-pub mod Asked
-pub mod Endings

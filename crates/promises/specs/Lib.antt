@@ -1,3 +1,0 @@
-pub mod Resuming
-pub mod Questions
-pub mod Timers
