@@ -41,10 +41,10 @@ pub front_none : (k : SinkNow) (texts : List (List ℕ)) → WroteFront k k text
 front_none k texts = record { done = []; rest = texts; texts_are = refl; bytes = Gained-nil k.written; calls = inl refl }
 
 pub writes_none : (p : Type 0) (k : SinkNow) → Writes k k p [] whole
-writes_none p k = record { only = tt; wrote = all_none k; steady = refl }
+writes_none p k = record { only = tt; wrote = all_none k; steady = refl; grown = omega arith }
 
 pub writes_wanting : (p : Type 0) (k : SinkNow) (texts : List (List ℕ)) → Writes k k p texts no_memory
-writes_wanting p k texts = record { only = tt; wrote = front_none k texts; steady = refl }
+writes_wanting p k texts = record { only = tt; wrote = front_none k texts; steady = refl; grown = omega arith }
 
 -- texts behind others that were written
 
@@ -87,9 +87,9 @@ fault_behind p k m l a b same g (inl h) = inl (subst (λ n. Rose n l.faults) sam
 fault_behind p k m l a b same g (inr h) = inr (h.0, all_behind k m l a b g h.1)
 
 pub writes_behind : (p : Type 0) (k m l : SinkNow) (a b : List (List ℕ)) (c : Course) → WroteAll k m a → m.faults ≡ k.faults → Writes m l p b c → Writes k l p (a ++ b) c
-writes_behind p k m l a b whole g same h = record { only = tt; wrote = all_behind k m l a b g h.wrote; steady = h.steady ∙ same }
-writes_behind p k m l a b write_fault g same h = record { only = tt; wrote = fault_behind p k m l a b same g h.wrote; steady = tt }
-writes_behind p k m l a b no_memory g same h = record { only = tt; wrote = front_behind k m l a b g h.wrote; steady = h.steady ∙ same }
+writes_behind p k m l a b whole g same h = record { only = tt; wrote = all_behind k m l a b g h.wrote; steady = h.steady ∙ same; grown = subst (λ n. n ≤ l.faults) same h.grown }
+writes_behind p k m l a b write_fault g same h = record { only = tt; wrote = fault_behind p k m l a b same g h.wrote; steady = tt; grown = subst (λ n. n ≤ l.faults) same h.grown }
+writes_behind p k m l a b no_memory g same h = record { only = tt; wrote = front_behind k m l a b g h.wrote; steady = h.steady ∙ same; grown = subst (λ n. n ≤ l.faults) same h.grown }
 writes_behind p k m l a b usage g same h = absurd h.only
 writes_behind p k m l a b read_fault g same h = absurd h.only
 writes_behind p k m l a b silent g same h = absurd h.only
@@ -133,8 +133,8 @@ IsCut no_memory = ⊤
 IsCut course = ⊥
 
 pub writes_before : (p : Type 0) (k l : SinkNow) (a b : List (List ℕ)) (c : Course) → IsCut c → Writes k l ⊥ a c → Writes k l p (a ++ b) c
-writes_before p k l a b write_fault cut h = record { only = tt; wrote = fault_before p k l a b h.wrote; steady = tt }
-writes_before p k l a b no_memory cut h = record { only = tt; wrote = front_before k l a b h.wrote; steady = h.steady }
+writes_before p k l a b write_fault cut h = record { only = tt; wrote = fault_before p k l a b h.wrote; steady = tt; grown = h.grown }
+writes_before p k l a b no_memory cut h = record { only = tt; wrote = front_before k l a b h.wrote; steady = h.steady; grown = h.grown }
 writes_before p k l a b whole cut h = absurd cut
 writes_before p k l a b usage cut h = absurd cut
 writes_before p k l a b read_fault cut h = absurd cut
@@ -146,9 +146,9 @@ fault_put p q k l a f (inl h) = inl h
 fault_put p q k l a f (inr h) = inr (f h.0, h.1)
 
 pub writes_put : (p q : Type 0) (k l : SinkNow) (a : List (List ℕ)) (c : Course) → (p → q) → Writes k l p a c → Writes k l q a c
-writes_put p q k l a whole f h = record { only = tt; wrote = h.wrote; steady = h.steady }
-writes_put p q k l a write_fault f h = record { only = tt; wrote = fault_put p q k l a f h.wrote; steady = tt }
-writes_put p q k l a no_memory f h = record { only = tt; wrote = h.wrote; steady = h.steady }
+writes_put p q k l a whole f h = record { only = tt; wrote = h.wrote; steady = h.steady; grown = h.grown }
+writes_put p q k l a write_fault f h = record { only = tt; wrote = fault_put p q k l a f h.wrote; steady = tt; grown = h.grown }
+writes_put p q k l a no_memory f h = record { only = tt; wrote = h.wrote; steady = h.steady; grown = h.grown }
 writes_put p q k l a usage f h = absurd h.only
 writes_put p q k l a read_fault f h = absurd h.only
 writes_put p q k l a silent f h = absurd h.only
@@ -168,16 +168,18 @@ fault_cause p k l a (inr h) = inr h.0
 
 -- one text by one write
 
-pub one_written : (k l : SinkNow) (text : List ℕ) (r : Result Unit SinkError) → WriteAnswer k.written l.written text (Rose k.faults l.faults) r → WriteCounts k.faults l.faults r → l.calls ≡ next_count k.calls
+pub one_written : (k l : SinkNow) (text : List ℕ) (r : Result Unit SinkError) → WriteAnswer k.written l.written text (Rose k.faults l.faults) r → WriteCounts k.faults l.faults r → k.faults ≤ l.faults → l.calls ≡ next_count k.calls
     → Writes k l ⊥ (text ∷ []) (of_writing r)
-one_written k l text (Ok u) h steady calls = record { only = tt; wrote = (subst (Gained k.written l.written) (sym (append-nil text)) h, calls); steady = steady }
-one_written k l text (Err Failed) h steady calls = record {
+one_written k l text (Ok u) h steady grown calls = record { only = tt; wrote = (subst (Gained k.written l.written) (sym (append-nil text)) h, calls); steady = steady; grown = grown }
+one_written k l text (Err Failed) h steady grown calls = record {
   only = tt;
   wrote = inl (h.0, record { done = []; next = text; rest = []; texts_are = refl; count = h.1.0; part = h.1.1; bytes = h.1.2; calls = calls });
   steady = tt;
+  grown = grown;
 }
-one_written k l text (Err NoMemory) h steady calls = record {
+one_written k l text (Err NoMemory) h steady grown calls = record {
   only = tt;
   wrote = record { done = []; rest = text ∷ []; texts_are = refl; bytes = subst (λ w. Gained k.written w []) (sym h) (Gained-nil k.written); calls = inr (omega arith, calls) };
   steady = steady;
+  grown = grown;
 }

@@ -1,5 +1,5 @@
 -- What the stages of a call owe: a fetch, the writing of texts, and a put.
-use Rattle.std.specs.Prelude.{◌≡◌, ℕ, List, [], Vec, Result, Err, ⊤}
+use Rattle.std.specs.Prelude.{◌≡◌, ℕ, ◌≤◌, List, [], Vec, Result, Err, ⊤}
 use Rattle.std.specs.declared.alloc.Global.{Global}
 use Rattle.sv_channels.specs.Counts.{next_count, Rose, NoneFell, NoneRose}
 use Rattle.sv_channels.specs.Shelf.{FetchAnswer, FetchCounts, PutAnswer, PutCounts}
@@ -45,11 +45,12 @@ IsWriting usage = ⊥
 IsWriting read_fault = ⊥
 IsWriting silent = ⊥
 
--- the writing of these texts, and a put behind them if one may fail
+-- the writing of these texts, and a put behind them if one may fail; the count of failed writes falls in no course
 pub record Writes (k l : SinkNow) (put_failed : Type 0) (texts : List (List ℕ)) (course : Course) : Type 0 where
   pub only : IsWriting course
   pub wrote : Wrote k l put_failed texts course
   pub steady : WritesSteadily k l course
+  pub grown : k.faults ≤ l.faults
 
 -- a write that wanted memory wrote nothing
 abbrev pub Unwritten : SinkNow → SinkNow → Result Unit SinkError → Type 0

@@ -1,25 +1,11 @@
 //! Says in plain words what a Scratch 3 project has, or why and where it is refused, and what to change.
 #![tactic(auto)]
 
-mod advice;
-mod counting;
-mod counts;
-mod judging;
-mod naming;
-mod pieces;
-mod places;
-mod scripts;
-mod status;
-mod text;
-mod top;
-mod unknown;
-
 use call_outcomes::{edges_of, tell};
-use status::{Status, exit_number, told};
+use report_command::{Status, exit_number, report, told};
 use std::env;
 use std::process::ExitCode;
 use sv_channels::{WordsError, words_of};
-use top::report;
 
 // Reports with real files and the standard output.
 fn run(rt: &HostRuntime) -> Status {
@@ -42,6 +28,3 @@ fn main(rt: HostRuntime) -> ExitCode {
     }
     ExitCode::from(exit_number(&status))
 }
-
-#[cfg(test)]
-mod tests;

@@ -1,0 +1,12 @@
+pub mod Parsed
+pub mod Programs
+pub mod Readings
+pub mod Reach
+pub mod Files
+pub mod Resumed
+pub mod Costs
+pub mod Saved
+pub mod Owed
+pub mod ThreeCalls
+pub mod Again
+pub mod Calls

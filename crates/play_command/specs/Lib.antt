@@ -1,0 +1,11 @@
+pub mod WholeNumbers
+pub mod Limits
+pub mod Command
+pub mod Outcome
+pub mod Causes
+pub mod Calls
+pub mod Resuming
+pub mod Promise
+pub mod Laws
+pub mod Stages
+pub mod Saving

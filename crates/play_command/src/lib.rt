@@ -1,0 +1,15 @@
+//! The commands `play`, `resume` and `check`: the same bytes for the same files, on every machine. specs/Promise.antt says what is
+//! promised.
+#![tactic(auto)]
+
+mod command;
+mod counts;
+mod endings;
+mod laws;
+mod saving;
+mod top;
+mod whole_numbers;
+
+pub use laws::two_parts_of_a_script_are_the_whole;
+pub use run_save::{Limit, Status, Which, exit_number, status_text, told};
+pub use top::play;

@@ -1,6 +1,0 @@
-use Rattle.std.proofs.Common.{◌≡◌, take, map}
-use Rattle.block_checks.specs.Rows.{rows}
-use Rattle.report.proofs.scripts.rows.Given as goal
-
-abbrev pub invariant-loop-block : goal.invariant-loop-block
-invariant-loop-block l = map (λ r. r.items) l.rows.items ≡ rows (take l.block-index l.blocks)

@@ -1,0 +1,18 @@
+//! The command `report`: says in plain words what a Scratch 3 project has, or why and where it is refused, and what to change.
+//! specs/Promise.antt says what is promised.
+#![tactic(auto)]
+
+mod advice;
+mod counting;
+mod counts;
+mod judging;
+mod naming;
+mod pieces;
+mod places;
+mod status;
+mod text;
+mod top;
+mod unknown;
+
+pub use status::{Status, exit_number, told};
+pub use top::report;

@@ -1,0 +1,4 @@
+pub mod Stops
+pub mod Limits
+pub mod Lines
+pub mod Scripts
