@@ -54,6 +54,8 @@ def sources(examples):
             yield name, folder, read(seed).decode().strip() if os.path.isfile(seed) else '1'
     for name in sorted(os.listdir(os.path.join(examples, 'cases'))):
         folder = os.path.join(examples, 'cases', name)
+        if not os.path.isdir(folder):
+            continue
         words = read(os.path.join(folder, 'args')).decode('utf-8', 'replace').split('\n')
         if words[0] == 'play' and len(words) == 6 and read(os.path.join(folder, 'status')) == b'0\n' and os.path.isfile(os.path.join(folder, 'script.txt')):
             yield name, folder, words[3]
