@@ -2,7 +2,7 @@
 --
 -- The machine is that of machine_spec/specs: script trees, threads with what is left to do, slices, passes, frames. A frame's text
 -- is that of FrameText there; Output goes through the lines of a script, which ScriptText reads; the text of a saved run is that of
--- saved_text/specs, Saved. Which project files are accepted, the refusal of the others, and the program of an accepted file, is that
+-- saved_spec/specs, Saved. Which project files are accepted, the refusal of the others, and the program of an accepted file, is that
 -- of project_spec/specs, Refusals; which saved runs are accepted is that of saved_spec/specs, Refusals.
 use Rattle.std.specs.Prelude.{◌≡◌, ◌≢◌, ℕ, ◌≤◌, nat_lt, List, [], ◌∷◌, ◌++◌, length, map, codes, Option, None, Some, if◌then◌else◌}
 use Rattle.std.specs.Fmt.{decimal}
