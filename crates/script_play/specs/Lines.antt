@@ -53,7 +53,7 @@ LineEnds o (Err WriteFault) = Unit {0}
 LineEnds o (Err NoMemory) = Unit {0}
 LineEnds o (Err (BadScript r)) = ⊥
 
--- the play of a line p, whose outcome is o, answers as this says, and writes its texts
+-- the play of a line of the program p, with the outcome o, answers as this says, and writes its texts
 pub record PlaysLine (p : Program) (line : Line) (o : Outcome (World Task)) (k l : SinkNow) (answer : Result (Unit {0}) PlayStop) : Type 0 where
   pub ends : LineEnds o answer
   pub writes : Writes k l ⊥ (line_writes p line o) (course answer)
