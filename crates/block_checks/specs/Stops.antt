@@ -9,10 +9,10 @@ use Rattle.project_spec.specs.Refusals.{Test, Fails, FailsAt, IsFirst, IsFirstOf
 use Rattle.project_spec.specs.Refusals as file
 use Rattle.block_checks.specs.declared.stop.Stop.{Stop}
 use Rattle.block_checks.specs.declared.stop.Stop.TheVariants.{Refused, NoMemory}
-use Rattle.block_checks.specs.declared.testing.LooseTest.{LooseTest}
-use Rattle.block_checks.specs.declared.testing.LooseTest.TheVariants as loose
-use Rattle.block_checks.specs.declared.testing.LinkedTest.{LinkedTest}
-use Rattle.block_checks.specs.declared.testing.LinkedTest.TheVariants as linked
+use Rattle.block_checks.specs.declared.test_order.LooseTest.{LooseTest}
+use Rattle.block_checks.specs.declared.test_order.LooseTest.TheVariants as loose
+use Rattle.block_checks.specs.declared.test_order.LinkedTest.{LinkedTest}
+use Rattle.block_checks.specs.declared.test_order.LinkedTest.TheVariants as linked
 
 -- that refusal, or want of memory
 abbrev pub Tells : Refusal → Stop → Type 0

@@ -4,17 +4,18 @@
 #![tactic(auto)]
 
 mod block_links;
+mod checked_scripts;
 mod depth;
 mod fields;
 mod inputs;
-mod linking;
-mod loose;
+mod loose_blocks;
 mod places;
 mod roles;
 mod rows;
 mod stop;
-mod testing;
+mod test_order;
 
 pub use block_links::BlockLinks;
-pub use linking::in_scripts;
-pub use testing::test_blocks;
+pub use checked_scripts::in_scripts;
+pub use roles::is_menu;
+pub use test_order::test_blocks;

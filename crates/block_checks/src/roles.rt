@@ -8,8 +8,8 @@ use block_table::{has_role, is_branch};
 use opcode_table::Role;
 use project_spec::{Block, Code};
 
-// Whether the block is a menu.
-fn is_menu(block: &Block) -> bool
+/// Whether the block is a menu: a shadow whose opcode is not known, with one field and no input.
+pub fn is_menu(block: &Block) -> bool
     ensures { result ≡ is_menu block.now }
 {
     match &block.code {

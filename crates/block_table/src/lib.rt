@@ -5,7 +5,6 @@
 //! in one.
 #![tactic(auto)]
 
-mod bounding;
 mod by_name;
 mod field_list;
 mod file_block;
@@ -13,16 +12,17 @@ mod ids;
 mod input_list;
 mod objects;
 mod primitives;
-mod reading;
+mod reader;
 mod refusal;
 mod roles;
 mod salt;
 mod table;
+mod text_lengths;
 
 pub use by_name::named;
 pub use machine_spec::BlockId;
 pub use project_spec::{Block, Blocks, Code, Fields, Input, Inputs, Link, Mutation};
-pub use reading::build;
+pub use reader::build;
 pub use refusal::BlockRefusal;
 pub use roles::{has_role, is_branch, is_hat, is_head};
 pub use table::{BlockTable, FileTable, read_table};

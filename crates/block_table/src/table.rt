@@ -11,11 +11,11 @@ ghost use Rattle.block_table.specs.Refused.{Fits};
 ghost use Rattle.block_table.specs.Short.{HaveShortFields};
 ghost use Rattle.block_table.specs.Table.{numbered};
 
-use crate::bounding::short_blocks;
 use crate::file_block::FileBlocks;
 use crate::ids::Ids;
 use crate::objects::{are_lists, each_block};
 use crate::refusal::BlockRefusal;
+use crate::text_lengths::short_blocks;
 use json_shapes::{Fault, Place};
 use lists::ListOf;
 use machine_spec::BlockId;

@@ -3,14 +3,14 @@
 #![tactic(auto)]
 
 mod block;
+mod cache;
 mod fields;
 mod inputs;
 mod laws;
 mod links;
-mod making;
 
 pub use block::{CachedBlock, CachedBlocks, CachedFields, CachedInputs};
+pub use cache::cache_blocks;
 pub use fields::ref_in;
 pub use laws::{a_script_is_told, an_expression_is_told, links_fall};
 pub use links::{first_of, linked};
-pub use making::cache_blocks;

@@ -2,12 +2,12 @@
 //! scratch3_event.js, scratch3_procedures.js, scratch3_sensing.js).
 #![tactic(auto)]
 
-mod applying;
+mod block_rows;
+mod clones;
 mod loops;
 mod messages;
 mod procedures;
 mod questions;
-mod stopping;
-mod waiting;
+mod waits;
 
-pub use applying::apply;
+pub use block_rows::apply;

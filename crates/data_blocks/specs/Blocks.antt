@@ -2,7 +2,7 @@
 -- functions.
 use Rattle.std.specs.Prelude.{ℕ, List, codes}
 use Rattle.rand_core.specs.Stream.{Stream}
-use Rattle.script_words.specs.declared.counting.Counted.{Counted}
+use Rattle.script_words.specs.declared.counter.Counted.{Counted}
 use Rattle.opcode_table.specs.declared.opcode.Opcode.{Opcode}
 use Rattle.scratch_values.specs.Named.{Arguments}
 use Rattle.machine_spec.specs.Outcome.{Outcome}

@@ -8,7 +8,7 @@ ghost use Rattle.machine_spec.specs.Stores.{elapsed as elapsed_since};
 ghost use Rattle.machine_spec.specs.Stopping.{is_first_of};
 ghost use Rattle.machine_spec.specs.Line.{with_key, without_key};
 ghost use Rattle.machine_spec.specs.Frame.{is_empty as is_nil, next_due};
-ghost use Rattle.devices.specs.First.{first_devices};
+ghost use Rattle.machine_spec.specs.First.{first_devices};
 ghost use Rattle.devices.specs.Lists.{without_due};
 ghost use Rattle.devices.specs.Parts.{devices_of, HasUsage};
 

@@ -7,7 +7,7 @@ use Rattle.script_words.specs.declared.stops.Stop.{Stop}
 use Rattle.script_words.specs.declared.stops.Stop.TheVariants.{Stack, Text, Counter, NoMemory}
 use Rattle.scratch_values.specs.declared.value.Value.{Value}
 use Rattle.scratch_values.specs.Args.{arguments}
-use Rattle.scratch_values.specs.declared.held.Arg.{Arg}
+use Rattle.scratch_values.specs.declared.argument_values.Arg.{Arg}
 use Rattle.scratch_values.specs.Held.{held, pair_of}
 use Rattle.machine_spec.specs.Outcome.{Outcome, Goes, Full, TooLong, Spent, then_do, StopIs}
 use Rattle.machine_spec.specs.Script.{Statement}

@@ -2,13 +2,13 @@
 //! engine/execute.js).
 #![tactic(auto)]
 
-mod evaluating;
-mod linked;
-mod operating;
-mod sole;
+mod block_links;
+mod input_values;
+mod operations;
+mod sole_input;
 mod view;
 mod ways;
 
-pub use evaluating::inputs;
-pub use sole::{no_inputs, only_input};
+pub use input_values::inputs;
+pub use sole_input::{no_inputs, only_input};
 pub use view::View;

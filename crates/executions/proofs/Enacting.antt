@@ -4,7 +4,7 @@ use Rattle.std.specs.Prelude.{slice_get, unwrap_or, nat_lt, ◌==◌, ◌||◌, 
 use Rattle.std.proofs.lemmas.Bool.{eqb-true}
 use Rattle.std.proofs.lemmas.Bool.Decides.{nat_tests}
 use Rattle.rand_core.specs.Stream.{Stream}
-use Rattle.script_words.specs.declared.counting.Counted.{Counted}
+use Rattle.script_words.specs.declared.counter.Counted.{Counted}
 use Rattle.script_words.specs.declared.stops.Stop.{Stop}
 use Rattle.scratch_values.specs.Named.{Arguments}
 use Rattle.machine_spec.specs.Outcome.{Outcome, Goes, most_levels, StopIs}

@@ -4,7 +4,7 @@ use Rattle.std.specs.Prelude.{slice_get}
 use Rattle.rand_core.specs.Stream.{Stream}
 use Rattle.script_words.specs.declared.stops.Stop.{Stop}
 use Rattle.scratch_values.specs.Named.{Arguments}
-use Rattle.opcode_table.specs.declared.grouping.Group.TheVariants.{Data}
+use Rattle.opcode_table.specs.declared.groups.Group.TheVariants.{Data}
 use Rattle.opcode_table.specs.declared.kinds.Kind.TheVariants.{Plain}
 use Rattle.opcode_table.specs.declared.opcode.Opcode.{Opcode}
 use Rattle.opcode_table.specs.declared.opcode.Opcode.TheVariants.{DataSetVariableTo, DataChangeVariableBy, DataShowVariable, DataHideVariable, DataAddToList, DataDeleteOfList, DataDeleteAllOfList, DataInsertAtList, DataReplaceItemOfList, DataShowList, DataHideList}

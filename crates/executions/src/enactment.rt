@@ -2,7 +2,7 @@
 
 ghost use Rattle.std.specs.Prelude.{◌≡◌, [], ◌∷◌, ℕ, false};
 ghost use Rattle.opcode_table.specs.Kinds.{group};
-ghost use Rattle.opcode_table.specs.declared.grouping.Group.TheVariants as group_of;
+ghost use Rattle.opcode_table.specs.declared.groups.Group.TheVariants as group_of;
 ghost use Rattle.scratch_values.specs.Args.{arguments};
 ghost use Rattle.scratch_values.specs.Held.{pair_of};
 ghost use Rattle.machine_spec.specs.Keeping.{control_fits};

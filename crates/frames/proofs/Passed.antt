@@ -5,7 +5,7 @@ use Rattle.std.proofs.lemmas.List.Elements.{All-nil, All-cons}
 use Rattle.rand_core.specs.Stream.{Stream}
 use Rattle.scratch_values.specs.declared.value.Value.{Value}
 use Rattle.script_words.specs.declared.stops.Stop.{Stop}
-use Rattle.script_words.specs.declared.counting.Counted.{Counted}
+use Rattle.script_words.specs.declared.counter.Counted.{Counted}
 use Rattle.machine_spec.specs.Evaluate.{arguments_of, values}
 use Rattle.machine_spec.specs.Frame.{with_edge, edge_fired, edge_passed, edge_value, edge_view, edge_one}
 use Rattle.machine_spec.specs.Outcome.{Outcome, Goes, Full, TooLong, Spent, then_do, StopIs}

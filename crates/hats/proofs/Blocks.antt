@@ -10,8 +10,8 @@ use Rattle.project_spec.specs.Trees.{op_by, statement, head_of, target_of_link}
 use Rattle.project_check.specs.Loaded.{blocks_at, sheet_at}
 use Rattle.thread_frames.specs.Fit.{IsHeld}
 use Rattle.thread_frames.specs.Threads.{Thread, frames}
-use Rattle.hats.specs.declared.joining.Hat.{Hat}
-use Rattle.hats.specs.declared.starting.Round.{Round}
+use Rattle.hats.specs.declared.hat_threads.Hat.{Hat}
+use Rattle.hats.specs.declared.hat_rounds.Round.{Round}
 use Rattle.hats.specs.Started.{started}
 use Rattle.hats.specs.Rounds.{passes, hats_by}
 use Rattle.hats.proofs.Begins.{begins-next, next-held}

@@ -15,7 +15,7 @@ use Rattle.project_check.specs.declared.project.Project.{Project}
 use Rattle.project_check.specs.Loaded.{tables_of, blocks_at, sheet_at}
 use Rattle.thread_frames.specs.Fit.{IsHeld}
 use Rattle.thread_frames.specs.Threads.{Thread, frames, begins_with}
-use Rattle.hats.specs.declared.joining.Hat.{Hat}
+use Rattle.hats.specs.declared.hat_threads.Hat.{Hat}
 use Rattle.hats.specs.Edges.{EdgeHat}
 use Rattle.hats.specs.Heads.{target_of, IsEdgeOf}
 use Rattle.hats.specs.Started.{started}

@@ -11,7 +11,7 @@ use Rattle.machine_spec.specs.Program.{hat_block}
 use Rattle.machine_spec.specs.Outcome.{Outcome, Goes, Full, TooLong, Spent, then_do, StopIs}
 use Rattle.machine_spec.specs.Starting.{Handle, Pair, Crowd, restarts, placed, appended, joined, start_by, ignored_or_appended, start_one, start_all}
 use Rattle.thread_frames.specs.Threads.{Thread, frames, is_of, is_alive_of, begins_with}
-use Rattle.hats.specs.declared.joining.Hat.{Hat}
+use Rattle.hats.specs.declared.hat_threads.Hat.{Hat}
 use Rattle.hats.specs.Started.{new_of, started}
 
 -- Outcomes

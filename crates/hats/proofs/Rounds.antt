@@ -15,7 +15,7 @@ use Rattle.machine_spec.specs.Starting.{meant, pairs_of, pairs}
 use Rattle.project_spec.specs.Trees.{scripts_of, sheet_of, sheets}
 use Rattle.project_check.specs.declared.project.Project.{Project}
 use Rattle.project_check.specs.Loaded.{tables_of, names_of, program_of}
-use Rattle.hats.specs.declared.starting.Round.{Round}
+use Rattle.hats.specs.declared.hat_rounds.Round.{Round}
 use Rattle.hats.specs.Fitting.{is_meant, in_round, is_click}
 use Rattle.hats.specs.Rounds.{passes, hats_in, has_hats, hats_of, hats_among}
 use Rattle.hats.proofs.Fitted.{second-none}

@@ -8,7 +8,7 @@ use Rattle.machine_spec.specs.Places.{Places}
 use Rattle.machine_spec.specs.Starting.{Pair, Crowd, start_all}
 use Rattle.project_check.specs.declared.project.Project.{Project}
 use Rattle.thread_frames.specs.Threads.{Thread, frames}
-use Rattle.hats.specs.declared.joining.Numbers.{Numbers}
+use Rattle.hats.specs.declared.hat_threads.Numbers.{Numbers}
 use Rattle.hats.specs.Rounds.{IsKept}
 use Rattle.hats.proofs.Outcomes.{stop-same, each-more, each-stop}
 

@@ -10,8 +10,8 @@ use Rattle.project_check.specs.declared.project.Project.{Project}
 use Rattle.project_check.specs.Loaded.{program_of, tables_of, blocks_at, sheet_at}
 use Rattle.thread_frames.specs.Fit.{Fits}
 use Rattle.thread_frames.specs.Threads.{Thread}
-use Rattle.hats.specs.declared.joining.Numbers.{Numbers}
-use Rattle.hats.specs.declared.starting.Round.{Round}
+use Rattle.hats.specs.declared.hat_threads.Numbers.{Numbers}
+use Rattle.hats.specs.declared.hat_rounds.Round.{Round}
 use Rattle.hats.specs.Fitting.{is_meant, in_round}
 
 -- The hats of an instance that pass a test

@@ -5,8 +5,8 @@ use Rattle.machine_spec.specs.Outcome.{Outcome, Goes}
 use Rattle.machine_spec.specs.Places.{Places}
 use Rattle.machine_spec.specs.Starting.{Crowd, placed, appended, joined}
 use Rattle.thread_frames.specs.Threads.{Thread, frames, new_thread, is_of, is_alive_of}
-use Rattle.hats.specs.declared.joining.Hat.{Hat}
-use Rattle.hats.specs.declared.joining.Numbers.{Numbers}
+use Rattle.hats.specs.declared.hat_threads.Hat.{Hat}
+use Rattle.hats.specs.declared.hat_threads.Numbers.{Numbers}
 
 -- the threads, the number of the next one, and the numbers of those that were started
 abbrev pub crowd_of : Places Thread → Numbers → Crowd Thread

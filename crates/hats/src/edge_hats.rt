@@ -11,7 +11,7 @@ ghost use Rattle.thread_frames.specs.Threads.{is_alive_of};
 ghost use Rattle.hats.specs.Edges.{is_edge, edge_of, free_edges, among};
 ghost use Rattle.hats.specs.Rounds.{passing_by, passing_at};
 
-use crate::fitting::{is_there, kind_of};
+use crate::filters::{is_there, kind_of};
 use lists::ListOf;
 use machine_spec::{BlockId, Instance, InstanceId, TargetId};
 use opcode_table::HatKind;

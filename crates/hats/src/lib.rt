@@ -3,13 +3,13 @@
 #![tactic(auto)]
 
 mod edge_hats;
-mod firing;
-mod fitting;
-mod joining;
+mod edge_start;
+mod filters;
+mod hat_rounds;
+mod hat_threads;
 mod laws;
-mod starting;
 
 pub use edge_hats::{EdgeHat, EdgeList, edges};
-pub use firing::fire;
+pub use edge_start::fire;
+pub use hat_rounds::start;
 pub use laws::every_hat_is_a_head;
-pub use starting::start;

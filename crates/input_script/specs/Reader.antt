@@ -1,12 +1,12 @@
 -- Where the reader of an input script stands, what it reads next, and what it answers. docs/formats.md has the lines.
-use Rattle.std.specs.Prelude.{◌≡◌, ℕ, ◌==◌, ◌+◌, ◌≤◌, ◌^◌, ◌*◌, List, [], ◌∷◌, drop, Option, None, Some, Result, Ok, Err}
+use Rattle.std.specs.Prelude.{◌≡◌, ℕ, ◌==◌, ◌+◌, ◌≤◌, List, [], ◌∷◌, drop, Option, None, Some, Result, Ok, Err}
 use Rattle.std.specs.List.{after_first, before_first}
 use Rattle.machine_spec.specs.declared.lines.Budget.{Budget}
 use Rattle.machine_spec.specs.declared.lines.Line.{Line}
 use Rattle.machine_spec.specs.declared.lines.Line.TheVariants.{Frame}
 use Rattle.machine_spec.specs.declared.lines.LineRefusal.{LineRefusal}
 use Rattle.machine_spec.specs.declared.lines.LineRefusal.TheVariants.{NotUtf8, UnknownLine, BadNumber, OutOfRange, ClockBack, NoMemory}
-use Rattle.machine_spec.specs.ScriptText.{Reading, Good, Refused, reading_of, clock_after, lines_of}
+use Rattle.machine_spec.specs.ScriptText.{Reading, Good, Refused, reading_of, clock_after, last_clock, lines_of}
 
 -- the bytes that are left, the lines in them, how many were read, and the last clock reading
 pub record Reader : Type 0 where
@@ -57,7 +57,7 @@ Refuses (Err (ClockBack n was is)) r = r ≡ Some (Refused (ClockBack n was is))
 
 -- what a frame line hands in is in its ranges
 pub record IsBudget (b : Budget) : Type 0 where
-  pub clock : b.clock ≤ 9 * 10 ^ 12
+  pub clock : b.clock ≤ last_clock
   pub passes_low : 1 ≤ b.passes
   pub passes : b.passes ≤ 10000
   pub warp : b.warp ≤ 1000000

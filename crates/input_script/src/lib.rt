@@ -2,9 +2,9 @@
 #![tactic(auto)]
 
 mod cuts;
+mod line_reader;
 mod numbers;
 mod ranges;
-mod reading;
 mod script;
 mod words;
 

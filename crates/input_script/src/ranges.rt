@@ -5,9 +5,7 @@ ghost use Rattle.machine_spec.specs.ScriptText.{Good, mouse_line, click_line, fr
 ghost use Rattle.input_script.specs.Reader.{Refuses};
 
 use crate::numbers::{signed_number, whole_number};
-use machine_spec::{Budget, Line, LineRefusal};
-
-const MAX_CLOCK: u64 = 9_000_000_000_000;
+use machine_spec::{Budget, LAST_CLOCK, Line, LineRefusal};
 
 const MAX_PASSES: u64 = 10_000;
 
@@ -73,7 +71,7 @@ fn in_range(number: u64, last: u64, clock: u64, passes: u64, warp: u64) -> Resul
     ensures ok { IfOk result (λ l. frame_line number last (Some clock) (Some passes) (Some warp) ≡ Good l) }
     ensures refused { Refuses result (Some (frame_line number last (Some clock) (Some passes) (Some warp))) }
 {
-    if clock > MAX_CLOCK || passes < 1 || passes > MAX_PASSES || warp > MAX_WARP {
+    if clock > LAST_CLOCK || passes < 1 || passes > MAX_PASSES || warp > MAX_WARP {
         return Err(LineRefusal::OutOfRange { line: number });
     }
     if clock < last {

@@ -5,7 +5,7 @@ ghost use Rattle.machine_spec.specs.ScriptText as text;
 ghost use Rattle.input_script.specs.Reader.{IsForward, IsLineBefore, Refuses, next_reading, reader_after};
 
 use crate::cuts::first_line;
-use crate::reading::reading_of;
+use crate::line_reader::reading_of;
 use machine_spec::{Line, LineRefusal};
 use std::alloc::Global;
 use std::marker::Model;

@@ -12,8 +12,8 @@ use Rattle.machine_spec.specs.declared.lines.Line.{Line}
 use Rattle.machine_spec.specs.declared.lines.Line.TheVariants as line
 use Rattle.machine_spec.specs.declared.lines.LineRefusal.{LineRefusal}
 use Rattle.machine_spec.specs.declared.lines.LineRefusal.TheVariants.{ClockBack, OutOfRange}
-use Rattle.machine_spec.specs.ScriptText.{Reading, Good, Refused, reading_of, text_reading, by_first_word, by_words, words_of, first_of, rest_of, whole_number, signed_number, mouse_line, frame_line, click_line, forward, is_budget, is_within, good_if, key_line, key_of_rest}
-use Rattle.laws_of_threads.specs.GoodLines.{IsGoodLine, IsNamedKey, last_clock}
+use Rattle.machine_spec.specs.ScriptText.{Reading, Good, Refused, reading_of, text_reading, by_first_word, by_words, words_of, first_of, rest_of, whole_number, signed_number, mouse_line, frame_line, click_line, forward, is_budget, is_within, good_if, key_line, key_of_rest, last_clock}
+use Rattle.laws_of_threads.specs.GoodLines.{IsGoodLine, IsNamedKey}
 use Rattle.laws_of_devices.proofs.Named.{and_first, and_second, read_named, rest_utf8}
 
 abbrev IfGood : ℕ → Reading → Type 0

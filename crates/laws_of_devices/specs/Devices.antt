@@ -7,10 +7,11 @@ use Rattle.machine_spec.specs.declared.devices.Key.{Key}
 use Rattle.machine_spec.specs.Line.{key_name}
 use Rattle.machine_spec.specs.Outcome.{last_number}
 use Rattle.machine_spec.specs.Program.{Program}
+use Rattle.machine_spec.specs.ScriptText.{last_clock}
 use Rattle.machine_spec.specs.Stores.{Devices}
 use Rattle.machine_spec.specs.Tasks.{Task}
 use Rattle.machine_spec.specs.World.{World}
-use Rattle.laws_of_threads.specs.GoodLines.{IsNamedKey, last_clock}
+use Rattle.laws_of_threads.specs.GoodLines.{IsNamedKey}
 use Rattle.laws_of_threads.specs.Lists.{Each}
 
 -- a time that may come, or that never comes

@@ -1,8 +1,8 @@
 -- The clock of a world is the last clock reading: nothing but a frame line sets it.
 use Rattle.std.proofs.Common.{◌≡◌, ℕ, zero, suc, ◌+◌, ◌&&◌, ◌||◌, not, Bool, true, false, if◌then◌else◌, List, [], ◌∷◌, length, drop, Option, Some, None, option_map, is_some, refl}
 use Rattle.std.specs.Prelude.{codes, pos, negsuc, slice_get, slice_index_or}
-use Rattle.opcode_table.specs.declared.grouping.Group.{Group}
-use Rattle.opcode_table.specs.declared.grouping.Group.TheVariants.{Motion, Looks, Data, Control as ControlGroup}
+use Rattle.opcode_table.specs.declared.groups.Group.{Group}
+use Rattle.opcode_table.specs.declared.groups.Group.TheVariants.{Motion, Looks, Data, Control as ControlGroup}
 use Rattle.opcode_table.specs.declared.opcode.Opcode.{Opcode}
 use Rattle.opcode_table.specs.declared.opcode.Opcode.TheVariants.{LooksSay, LooksThink, LooksSayForSecs, LooksThinkForSecs, LooksSwitchCostumeTo, LooksSwitchBackdropTo, LooksSwitchBackdropToAndWait, LooksChangeSizeBy, LooksSetSizeTo, LooksChangeEffectBy, LooksSetEffectTo, LooksShow, LooksHide, LooksGoToFrontBack, LooksGoForwardBackwardLayers, LooksNextCostume, LooksNextBackdrop, LooksClearGraphicEffects, ControlForever, ControlRepeat, ControlRepeatUntil, ControlIf, ControlIfElse, ControlWait, ControlWaitUntil, ControlStop, ControlCreateCloneOf, ControlDeleteThisClone, EventBroadcast, EventBroadcastAndWait, ProceduresCall, SensingAskAndWait, SensingResetTimer}
 use Rattle.opcode_table.specs.Kinds.{group}

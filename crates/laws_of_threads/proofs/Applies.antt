@@ -1,8 +1,8 @@
 -- What a row leaves of the world: its threads, the numbers that are given next, who is live, the clock and who waits.
 use Rattle.std.proofs.Common.{◌≡◌, ℕ, Option, refl}
 use Rattle.std.specs.Prelude.{codes}
-use Rattle.opcode_table.specs.declared.grouping.Group.{Group}
-use Rattle.opcode_table.specs.declared.grouping.Group.TheVariants.{Motion, Looks, Data, Control}
+use Rattle.opcode_table.specs.declared.groups.Group.{Group}
+use Rattle.opcode_table.specs.declared.groups.Group.TheVariants.{Motion, Looks, Data, Control}
 use Rattle.opcode_table.specs.Kinds.{group, kind}
 use Rattle.scratch_values.specs.Named.{Arguments}
 use Rattle.machine_spec.specs.declared.threads.Context.{Context}

@@ -14,13 +14,14 @@ use Rattle.machine_spec.specs.Outcome.{IfGoes, Goes, last_number}
 use Rattle.machine_spec.specs.Places.{Places}
 use Rattle.machine_spec.specs.Program.{Program, scripts_at}
 use Rattle.machine_spec.specs.Script.{Expressions, Statement, command_of, op_of}
+use Rattle.machine_spec.specs.ScriptText.{last_clock}
 use Rattle.machine_spec.specs.Starting.{Pair}
 use Rattle.machine_spec.specs.Step.{row, Applied}
 use Rattle.machine_spec.specs.Stopping.{scene_of, with_scene, first_taken, bubble_emptied, questions_dropped, without_timers, disposed, is_clone, all_stopped, clone_added, placed_behind, has_no_room}
 use Rattle.machine_spec.specs.Tasks.{Task}
 use Rattle.machine_spec.specs.View.{View}
 use Rattle.machine_spec.specs.World.{World}
-use Rattle.laws_of_threads.specs.GoodLines.{IsNamedKey, last_clock}
+use Rattle.laws_of_threads.specs.GoodLines.{IsNamedKey}
 use Rattle.laws_of_threads.specs.Instances.{Hosts, Inhabited}
 use Rattle.laws_of_threads.specs.Threads.{Holds}
 use Rattle.laws_of_threads.proofs.Applies.{Applies}

@@ -1,15 +1,11 @@
 -- What a line of a script says that is read where the clock stands at `last`.
-use Rattle.std.specs.Prelude.{◌≡◌, ℕ, ◌*◌, ◌^◌, ◌≤◌, unsigned_abs, length, Some}
+use Rattle.std.specs.Prelude.{◌≡◌, ℕ, ◌≤◌, unsigned_abs, length, Some}
 use Rattle.scratch_values.specs.Longest.{longest}
 use Rattle.machine_spec.specs.declared.devices.Key.{Key}
 use Rattle.machine_spec.specs.declared.lines.Line.{Line}
 use Rattle.machine_spec.specs.declared.lines.Line.TheVariants as line
 use Rattle.machine_spec.specs.Line.{key_name}
-use Rattle.machine_spec.specs.ScriptText.{key_of_rest}
-
--- the clock is at most 9·10^12 milliseconds
-abbrev pub last_clock : ℕ
-last_clock = 9 * 10 ^ 12
+use Rattle.machine_spec.specs.ScriptText.{key_of_rest, last_clock}
 
 -- a key is the one that its name names
 abbrev pub IsNamedKey : Key → Type 0

@@ -1,8 +1,8 @@
 -- Executions, slices and passes keep the numbers of a world within the limit.
 use Rattle.std.proofs.Common.{ℕ, zero, suc, ◌==◌, Bool, true, false, not, ◌||◌, if◌then◌else◌, List, [], ◌∷◌, filter, drop, Option, Some, None}
 use Rattle.std.specs.Prelude.{IfSome}
-use Rattle.opcode_table.specs.declared.grouping.Group.{Group}
-use Rattle.opcode_table.specs.declared.grouping.Group.TheVariants.{Motion, Looks, Data, Control as ControlGroup}
+use Rattle.opcode_table.specs.declared.groups.Group.{Group}
+use Rattle.opcode_table.specs.declared.groups.Group.TheVariants.{Motion, Looks, Data, Control as ControlGroup}
 use Rattle.opcode_table.specs.Kinds.{group}
 use Rattle.script_words.specs.declared.stops.CounterKind.TheVariants as counter
 use Rattle.scratch_values.specs.Named.{Arguments}

@@ -1,7 +1,7 @@
 -- Each change of a world keeps its variables, lists and monitors legal.
 use Rattle.std.proofs.Common.{◌≡◌, ℕ, Bool, not, filter, map, refl, sym, subst}
-use Rattle.opcode_table.specs.declared.grouping.Group.{Group}
-use Rattle.opcode_table.specs.declared.grouping.Group.TheVariants.{Motion, Looks, Data, Control}
+use Rattle.opcode_table.specs.declared.groups.Group.{Group}
+use Rattle.opcode_table.specs.declared.groups.Group.TheVariants.{Motion, Looks, Data, Control}
 use Rattle.opcode_table.specs.Kinds.{group}
 use Rattle.scratch_values.specs.Named.{Arguments}
 use Rattle.machine_spec.specs.declared.instance.Instance.{Instance}

@@ -14,8 +14,8 @@ use Rattle.script_words.specs.declared.stops.CounterKind.{CounterKind}
 use Rattle.script_words.specs.declared.stops.CounterKind.TheVariants as counter
 use Rattle.machine_spec.specs.Outcome.{Outcome, Spent, IfGoes, then_do, with_number, last_number}
 use Rattle.machine_spec.specs.Words.{Words, Drawn, undrawn, made_of, draw, words_after}
-use Rattle.opcode_table.specs.declared.grouping.Group.{Group}
-use Rattle.opcode_table.specs.declared.grouping.Group.TheVariants.{Motion, Looks, Data, Control}
+use Rattle.opcode_table.specs.declared.groups.Group.{Group}
+use Rattle.opcode_table.specs.declared.groups.Group.TheVariants.{Motion, Looks, Data, Control}
 use Rattle.opcode_table.specs.declared.opcode.Opcode.{Opcode}
 use Rattle.opcode_table.specs.declared.opcode.Opcode.TheVariants.{OperatorRandom, OperatorJoin, DataListContents, DataItemOfList, MotionGoTo, MotionGlideSecsToXY, MotionGlideTo, MotionPointTowards, MotionSetRotationStyle, LooksSay, LooksThink, LooksSayForSecs, LooksThinkForSecs, LooksSwitchCostumeTo, LooksSwitchBackdropTo, LooksSwitchBackdropToAndWait, LooksChangeSizeBy, LooksSetSizeTo, LooksChangeEffectBy, LooksSetEffectTo, LooksShow, LooksHide, LooksGoToFrontBack, LooksGoForwardBackwardLayers, DataDeleteOfList, DataInsertAtList, DataReplaceItemOfList}
 use Rattle.opcode_table.specs.Kinds.{group}

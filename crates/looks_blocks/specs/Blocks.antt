@@ -1,7 +1,7 @@
 -- The parts of a run that a block of looks may change, and what a row leaves; private functions alone cite the latter.
 use Rattle.std.specs.Prelude.{List, Bool}
 use Rattle.rand_core.specs.Stream.{Stream}
-use Rattle.script_words.specs.declared.counting.Counted.{Counted}
+use Rattle.script_words.specs.declared.counter.Counted.{Counted}
 use Rattle.speech_bubbles.specs.Scenes.{scene_in}
 use Rattle.machine_spec.specs.declared.instance.Instance.{Instance}
 use Rattle.machine_spec.specs.declared.threads.Context.{Context}

@@ -3,7 +3,7 @@ use Rattle.std.specs.Prelude.{ℕ}
 use Rattle.machine_spec.specs.Costume as machine
 use Rattle.looks_blocks.specs.declared.choices.Choice.{Choice}
 use Rattle.looks_blocks.specs.declared.choices.Choice.TheVariants.{Stays, To, Another}
-use Rattle.looks_blocks.specs.declared.picking.Pick.{Pick}
+use Rattle.looks_blocks.specs.declared.costume_choice.Pick.{Pick}
 
 abbrev pub choice_in : Choice → machine.Choice
 choice_in Stays = machine.Stays

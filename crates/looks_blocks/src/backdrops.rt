@@ -22,9 +22,9 @@ ghost use Rattle.looks_blocks.specs.Costumes.{HasCostumes};
 ghost use Rattle.looks_blocks.specs.Keeps.{KeepsWell};
 ghost use Rattle.looks_blocks.specs.Stops.{IsOfCountersOrMemory};
 
+use crate::costume_choice::Pick;
 use crate::costumes::next_costume;
 use crate::dress::{asked_for, present_name};
-use crate::picking::Pick;
 use block_arguments::given;
 use machine_spec::{Boxed, Context, Control, Filter, InstanceId};
 use project_json::Text;

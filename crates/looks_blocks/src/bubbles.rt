@@ -17,7 +17,7 @@ ghost use Rattle.targets.specs.Live.{IsSameCast};
 ghost use Rattle.looks_blocks.specs.Blocks.{leaves, parts};
 
 use crate::bubble_texts::bubble_text;
-use crate::own::bubble_usage;
+use crate::instance::bubble_usage;
 use block_arguments::{from_zero, given, number};
 use devices::{BubbleTimer, Devices, seconds};
 use machine_spec::{BubbleText, InstanceId, Say, Serial};

@@ -6,7 +6,7 @@ ghost use Rattle.scratch_values.specs.Value.{text_of};
 ghost use Rattle.machine_spec.specs.Costume as machine;
 ghost use Rattle.looks_blocks.specs.Choices.{choice_in};
 
-use crate::picking::{index, index_behind};
+use crate::costume_choice::{index, index_behind};
 use operators::Written;
 use scratch_number::{Num, of_whole, sub};
 use scratch_values::{BoundText, Value, numeric};

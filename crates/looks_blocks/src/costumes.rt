@@ -13,8 +13,8 @@ ghost use Rattle.looks_blocks.specs.Choices.{place_in};
 ghost use Rattle.looks_blocks.specs.Costumes.{HasCostumes};
 ghost use Rattle.looks_blocks.specs.Stops.{IsOfCountersOrMemory};
 
+use crate::costume_choice::Pick;
 use crate::dress::{asked_for, next};
-use crate::picking::Pick;
 use block_arguments::given;
 use machine_spec::InstanceId;
 use scratch_number::of_whole;

@@ -15,7 +15,7 @@ ghost use Rattle.target_records.specs.Costumes.{IsDressed};
 ghost use Rattle.looks_blocks.specs.Stops.{IsOfCountersOrMemory};
 
 use crate::choices::choice_of;
-use crate::picking::{Pick, index_behind, pick_for};
+use crate::costume_choice::{Pick, index_behind, pick_for};
 use machine_spec::{InstanceId, TargetId};
 use scratch_values::{BoundText, Value};
 use script_words::{Counted, Rng, Stop};

@@ -2,17 +2,17 @@
 //! blocks/scratch3_looks.js). The commands of sound belong to them, and do nothing.
 #![tactic(auto)]
 
-mod applying;
 mod backdrops;
+mod block_rows;
 mod bubble_texts;
 mod bubbles;
 mod choices;
+mod costume_choice;
 mod costumes;
 mod dress;
 mod effects;
+mod instance;
 mod layers;
-mod own;
-mod picking;
 mod sizes;
 
-pub use applying::apply;
+pub use block_rows::apply;

@@ -11,7 +11,7 @@ ghost use Rattle.target_records.specs.Records.{records_in};
 ghost use Rattle.targets.specs.Live.{IsSameCast};
 ghost use Rattle.looks_blocks.specs.Blocks.{parts};
 
-use crate::own::size;
+use crate::instance::size;
 use block_arguments::number;
 use machine_spec::InstanceId;
 use scratch_number::{Num, add};

@@ -1,7 +1,7 @@
 -- A row leaves all threads as they are.
 use Rattle.std.proofs.Common.{◌≡◌, ℕ, refl}
-use Rattle.opcode_table.specs.declared.grouping.Group.{Group}
-use Rattle.opcode_table.specs.declared.grouping.Group.TheVariants.{Motion, Looks, Data, Control}
+use Rattle.opcode_table.specs.declared.groups.Group.{Group}
+use Rattle.opcode_table.specs.declared.groups.Group.TheVariants.{Motion, Looks, Data, Control}
 use Rattle.opcode_table.specs.Kinds.{group}
 use Rattle.scratch_values.specs.Named.{Arguments}
 use Rattle.machine_spec.specs.Outcome.{Outcome, Goes, Full, TooLong, Spent, IfGoes, then_do}

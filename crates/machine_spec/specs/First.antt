@@ -3,7 +3,7 @@ use Rattle.std.specs.Prelude.{ℕ, pos, List, [], ◌∷◌, map, length, false,
 use Rattle.std.specs.List.{enumerate_from}
 use Rattle.machine_spec.specs.Words.{Words}
 use Rattle.machine_spec.specs.Program.{Program, TargetRecord}
-use Rattle.machine_spec.specs.Stores.{Instance, Store, no_bubble, less}
+use Rattle.machine_spec.specs.Stores.{Devices, Instance, Store, no_bubble, less}
 use Rattle.machine_spec.specs.Effects.{no_effects}
 use Rattle.machine_spec.specs.Tasks.{Task}
 use Rattle.machine_spec.specs.World.{World}
@@ -40,6 +40,22 @@ in_order (t ∷ ts) = layered t (in_order ts)
 abbrev pub store : ℕ → TargetRecord → Store
 store n t = record { of = n; values = map (λ v. v.value) t.variables; lists = map (λ l. l.items) t.lists }
 
+-- the devices of a run that begins: nothing is held or asked, all clocks stand at 0, and the first bubble update has the number 1
+abbrev pub first_devices : Devices
+first_devices = record {
+  answer = [];
+  clock = 0;
+  timer = 0;
+  keys = [];
+  mouse_x = pos 0;
+  mouse_y = pos 0;
+  button = false;
+  questions = [];
+  timers = [];
+  turbo = false;
+  usage = 1;
+}
+
 abbrev pub first_world : Program → Words → World Task
 first_world p words = record {
   frame = 0;
@@ -53,18 +69,6 @@ first_world p words = record {
     file_monitors = map (λ m. m.visible) p.records.monitors;
     made = [];
   };
-  devices = record {
-    answer = [];
-    clock = 0;
-    timer = 0;
-    keys = [];
-    mouse_x = pos 0;
-    mouse_y = pos 0;
-    button = false;
-    questions = [];
-    timers = [];
-    turbo = false;
-    usage = 1;
-  };
+  devices = first_devices;
   threads = record { list = []; detached = None };
 }

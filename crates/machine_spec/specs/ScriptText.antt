@@ -71,9 +71,17 @@ abbrev pub click_line : ℕ → Option ℕ → Reading
 click_line n (Some place) = good_if (nat_lt place (2 ^ 32)) (line.Click place) n
 click_line n None = Refused (refusal.BadNumber n)
 
+-- the bytes of a script file: 16 MiB
+abbrev pub script_limit : ℕ
+script_limit = 16 * 2 ^ 20
+
+-- the last time that a clock can show, in milliseconds
+abbrev pub last_clock : ℕ
+last_clock = 9 * 10 ^ 12
+
 -- the clock, the passes and the warp budget in their ranges
 abbrev pub is_budget : Budget → Bool
-is_budget b = nat_le b.clock (9 * 10 ^ 12) && nat_le 1 b.passes && nat_le b.passes 10000 && nat_le b.warp 1000000
+is_budget b = nat_le b.clock last_clock && nat_le 1 b.passes && nat_le b.passes 10000 && nat_le b.warp 1000000
 
 abbrev pub forward : (n last : ℕ) → Budget → Reading
 forward n last b = if nat_lt b.clock last then Refused (refusal.ClockBack n last b.clock) else Good (line.Frame b)

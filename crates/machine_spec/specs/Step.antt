@@ -1,8 +1,8 @@
 -- One execution: the inputs of a thread's first statement, its row, and what its control does with threads and world
 -- (after scratch-vm, engine/execute.js and engine/sequencer.js).
 use Rattle.std.specs.Prelude.{ℕ, ◌||◌, Bool, true, false, List, [], ◌∷◌, ◌++◌, Option, Some, None}
-use Rattle.opcode_table.specs.declared.grouping.Group.{Group}
-use Rattle.opcode_table.specs.declared.grouping.Group.TheVariants.{Motion, Looks, Data, Control as ControlGroup}
+use Rattle.opcode_table.specs.declared.groups.Group.{Group}
+use Rattle.opcode_table.specs.declared.groups.Group.TheVariants.{Motion, Looks, Data, Control as ControlGroup}
 use Rattle.opcode_table.specs.Kinds.{group}
 use Rattle.script_words.specs.declared.stops.CounterKind.TheVariants as counter
 use Rattle.scratch_values.specs.Named.{Arguments}

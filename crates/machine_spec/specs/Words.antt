@@ -1,7 +1,7 @@
 -- The random words of a run, and what takes some of them.
 use Rattle.std.specs.Prelude.{ℕ, ◌+◌}
 use Rattle.rand_core.specs.Stream.{Stream, next_u32}
-use Rattle.script_words.specs.declared.counting.Counted.{Counted}
+use Rattle.script_words.specs.declared.counter.Counted.{Counted}
 use Rattle.script_words.specs.declared.stops.CounterKind.TheVariants as counter
 use Rattle.script_words.specs.Counting.{source_of, drawn_of}
 use Rattle.script_words.specs.Words.{answers, seeded, without}

@@ -27,7 +27,7 @@ pub use laws::{
     a_pass_leaves_no_thread_that_is_done, own_controls_move_one_thread, rows_touch_no_thread,
     settling_keeps_what_is_left, slices_are_executions,
 };
-pub use limits::{MOST_ITEMS, MOST_LEVELS};
+pub use limits::{LAST_CLOCK, MOST_CLONES, MOST_ITEMS, MOST_LEVELS, MOST_TURNS, SCRIPT_LIMIT};
 pub use lines::{Budget, Line, LineRefusal};
 pub use records::{
     CostumeNames, ListRecord, ListRecords, TargetRecord, VariableRecord, VariableRecords,

@@ -1,13 +1,13 @@
 //! The blocks of motion: steps, turns, places, directions and glides (scratch-vm, blocks/scratch3_motion.js).
 #![tactic(auto)]
 
-mod applying;
-mod gliding;
-mod going;
-mod own;
+mod block_rows;
+mod destinations;
+mod glide_steps;
+mod headings;
+mod instance;
 mod places;
-mod pointing;
 mod steps;
 mod turns;
 
-pub use applying::apply;
+pub use block_rows::apply;

@@ -12,7 +12,7 @@ ghost use Rattle.motion_blocks.specs.Blocks.{parts_of};
 ghost use Rattle.motion_blocks.specs.Points.{point};
 ghost use Rattle.block_arguments.specs.Stops.{IsOfWordsOrMemory};
 
-use crate::own::Point;
+use crate::instance::Point;
 use devices::Devices;
 use operators::next_word;
 use scratch_number::{Num, of_whole};

@@ -8,7 +8,7 @@ ghost use Rattle.machine_spec.specs.Motion.{stepped};
 ghost use Rattle.machine_spec.specs.Stores.{instance_at, on_instance};
 ghost use Rattle.targets.specs.Live.{IsSameCast};
 
-use crate::own::{Point, Stance, stance_of};
+use crate::instance::{Point, Stance, stance_of};
 use block_arguments::number;
 use machine_spec::InstanceId;
 use scratch_number::{Num, add, cos, mul, sin};

@@ -10,7 +10,7 @@ ghost use Rattle.machine_spec.specs.Words.{Words};
 ghost use Rattle.targets.specs.Live.{IsSameCast};
 ghost use Rattle.motion_blocks.specs.Blocks.{goes_on};
 
-use crate::own::stance_of;
+use crate::instance::stance_of;
 use block_arguments::{field, number};
 use machine_spec::InstanceId;
 use scratch_number::{add, sub};

@@ -7,8 +7,8 @@
 mod defaults;
 mod parts;
 mod prototype;
-mod reading;
+mod reader;
 
 pub use project_spec::MutationRefusal;
 pub use prototype::{FilePrototype, FileValues};
-pub use reading::{read_call, read_prototype};
+pub use reader::{read_call, read_prototype};

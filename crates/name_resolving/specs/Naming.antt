@@ -1,7 +1,7 @@
 -- Names in blocks, as the definitions see them.
 use Rattle.std.specs.Prelude.{List, [], ◌∷◌, Option, None, Some}
 use Rattle.project_spec.specs.Resolving as told
-use Rattle.name_resolving.specs.declared.naming.Naming.{Naming}
+use Rattle.name_resolving.specs.declared.field_names.Naming.{Naming}
 use Rattle.name_resolving.specs.Directory.{sort_in}
 
 abbrev pub naming_in : Naming → told.Naming

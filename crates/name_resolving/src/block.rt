@@ -10,7 +10,7 @@ ghost use Rattle.name_resolving.specs.Passing.{Passes};
 ghost use Rattle.name_resolving.specs.Room.{holdings, parts};
 ghost use Rattle.name_resolving.specs.Scope.{IsScope};
 
-use crate::naming::{Naming, field_naming, input_naming};
+use crate::field_names::{Naming, field_naming, input_naming};
 use crate::scope::Scope;
 use lists::ListOf;
 use project_json::Text;

@@ -4,13 +4,13 @@
 
 mod block;
 mod directory;
-mod finding;
+mod field_names;
 mod first_places;
 mod index;
-mod naming;
-mod resolving;
+mod lookup;
+mod resolution;
 mod scope;
 mod sort;
 mod target;
 
-pub use resolving::{ResolvedNames, resolve};
+pub use resolution::{ResolvedNames, resolve};

@@ -11,8 +11,8 @@ ghost use Rattle.name_resolving.specs.Room.{holdings};
 ghost use Rattle.name_resolving.specs.Scope.{AddsIf, IsScope, NotesName, added_at};
 
 use crate::directory::Directory;
-use crate::finding::found;
-use crate::naming::Naming;
+use crate::field_names::Naming;
+use crate::lookup::found;
 use crate::sort::Sort;
 use machine_spec::TargetId;
 use scratch_values::{VarName, VarRef};

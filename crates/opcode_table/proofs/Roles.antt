@@ -2,7 +2,7 @@
 use Rattle.std.specs.Prelude.{◌≡◌, ◌≢◌}
 use Rattle.opcode_table.specs.declared.opcode.Opcode.{Opcode}
 use Rattle.opcode_table.specs.declared.opcode.Opcode.TheVariants.{EventWhenFlagClicked}
-use Rattle.opcode_table.specs.declared.grouping.Group.{Group}
+use Rattle.opcode_table.specs.declared.groups.Group.{Group}
 use Rattle.opcode_table.specs.declared.hats.HatKind.{HatKind}
 use Rattle.opcode_table.specs.declared.kinds.Kind.{Kind}
 use Rattle.opcode_table.specs.declared.shape.Role.{Role}

@@ -1,8 +1,8 @@
 -- The group of a command, the kind of a hat, and what a command does with its thread.
 use Rattle.opcode_table.specs.declared.opcode.Opcode.{Opcode}
 use Rattle.opcode_table.specs.declared.opcode.Opcode.TheVariants.{EventWhenFlagClicked, EventWhenThisSpriteClicked, EventWhenStageClicked, EventWhenBroadcastReceived, EventWhenBackdropSwitchesTo, EventWhenKeyPressed, ControlStartAsClone, EventWhenGreaterThan, ControlForever, ControlRepeat, ControlRepeatUntil, ControlIf, ControlIfElse, ControlWait, EventBroadcastAndWait, ProceduresCall, MotionMoveSteps, MotionTurnRight, MotionTurnLeft, MotionGoTo, MotionGoToXY, MotionGlideSecsToXY, MotionGlideTo, MotionPointInDirection, MotionPointTowards, MotionChangeXBy, MotionSetX, MotionChangeYBy, MotionSetY, MotionSetRotationStyle, LooksSay, LooksThink, LooksSayForSecs, LooksThinkForSecs, LooksSwitchCostumeTo, LooksNextCostume, LooksSwitchBackdropTo, LooksSwitchBackdropToAndWait, LooksNextBackdrop, LooksChangeSizeBy, LooksSetSizeTo, LooksChangeEffectBy, LooksSetEffectTo, LooksClearGraphicEffects, LooksShow, LooksHide, LooksGoToFrontBack, LooksGoForwardBackwardLayers, SoundPlay, SoundPlayUntilDone, SoundStopAllSounds, SoundChangeEffectBy, SoundSetEffectTo, SoundClearEffects, SoundChangeVolumeBy, SoundSetVolumeTo, SensingAskAndWait, DataSetVariableTo, DataChangeVariableBy, DataShowVariable, DataHideVariable, DataAddToList, DataDeleteOfList, DataDeleteAllOfList, DataInsertAtList, DataReplaceItemOfList, DataShowList, DataHideList}
-use Rattle.opcode_table.specs.declared.grouping.Group.{Group}
-use Rattle.opcode_table.specs.declared.grouping.Group.TheVariants.{Motion, Looks, Data, Control}
+use Rattle.opcode_table.specs.declared.groups.Group.{Group}
+use Rattle.opcode_table.specs.declared.groups.Group.TheVariants.{Motion, Looks, Data, Control}
 use Rattle.opcode_table.specs.declared.hats.HatKind.{HatKind}
 use Rattle.opcode_table.specs.declared.hats.HatKind.TheVariants.{FlagHat, SpriteHat, StageHat, MessageHat, BackdropHat, KeyHat, CloneHat, EdgeHat, NoHat}
 use Rattle.opcode_table.specs.declared.kinds.Kind.{Kind}

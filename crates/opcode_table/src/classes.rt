@@ -3,7 +3,7 @@
 ghost use Rattle.std.specs.Prelude.{◌≡◌};
 ghost use Rattle.opcode_table.specs.Kinds.{group, hat_kind, kind};
 
-use crate::grouping::Group;
+use crate::groups::Group;
 use crate::hats::HatKind;
 use crate::kinds::Kind;
 use crate::opcode::Opcode;

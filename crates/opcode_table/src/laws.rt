@@ -3,7 +3,7 @@
 ghost use Rattle.std.specs.Prelude.{◌≡◌, ◌≢◌, ℕ, List, Some, IfSome};
 ghost use Rattle.opcode_table.specs.Kinds.{group, hat_kind, kind};
 ghost use Rattle.opcode_table.specs.Table.{of_name, row};
-ghost use Rattle.opcode_table.specs.declared.grouping.Group.{Group};
+ghost use Rattle.opcode_table.specs.declared.groups.Group.{Group};
 ghost use Rattle.opcode_table.specs.declared.hats.HatKind.{HatKind};
 ghost use Rattle.opcode_table.specs.declared.kinds.Kind.{Kind};
 ghost use Rattle.opcode_table.specs.declared.opcode.Opcode.{Opcode};

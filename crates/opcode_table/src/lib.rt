@@ -2,7 +2,7 @@
 #![tactic(auto)]
 
 mod classes;
-mod grouping;
+mod groups;
 mod hats;
 mod kinds;
 mod laws;
@@ -12,7 +12,7 @@ mod parts;
 mod shape;
 
 pub use classes::{group, hat_kind, kind};
-pub use grouping::Group;
+pub use groups::Group;
 pub use hats::HatKind;
 pub use kinds::Kind;
 pub use laws::{

@@ -8,7 +8,7 @@ ghost use Rattle.scratch_values.specs.Comparison as comparison;
 ghost use Rattle.scratch_values.specs.Folding.{folded_chars};
 ghost use Rattle.machine_spec.specs.Reporters as machine;
 
-use crate::written::Written;
+use crate::value_texts::Written;
 use caseless::default_caseless_match_str;
 use scratch_number::{Num, order};
 use scratch_values::{Value, numeric};

@@ -5,13 +5,13 @@
 mod equality;
 mod functions;
 mod list_contents;
-mod picking;
+mod random_numbers;
 mod texts;
-mod written;
+mod value_texts;
 
 pub use equality::{is_among, is_equal, place_of};
 pub use functions::mathop;
 pub use list_contents::contents;
-pub use picking::{next_word, pick_random};
+pub use random_numbers::{next_word, pick_random};
 pub use texts::{char_count, empty_text, has_text, joined, letter};
-pub use written::Written;
+pub use value_texts::Written;

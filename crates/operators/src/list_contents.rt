@@ -9,7 +9,7 @@ ghost use Rattle.machine_spec.specs.Texts as machine;
 ghost use Rattle.operators.specs.Pieces.{piece};
 
 use crate::texts::has_one_char;
-use crate::written::Written;
+use crate::value_texts::Written;
 use project_json::Text;
 use scratch_values::{BoundText, LONGEST, Value};
 use script_words::Stop;

@@ -11,7 +11,7 @@ ghost use Rattle.machine_spec.specs.Reporters as machine;
 ghost use Rattle.machine_spec.specs.Texts.{char_text, has_part, letter_at, text_value};
 ghost use Rattle.scratch_values.specs.declared.value.Value.TheVariants as values;
 
-use crate::written::Written;
+use crate::value_texts::Written;
 use project_json::Text;
 use scratch_number::{Num, of_whole};
 use scratch_values::{BoundText, LONGEST, Value, contains};

@@ -7,11 +7,11 @@ use Rattle.rand_core.specs.Stream.{Stream}
 use Rattle.script_words.specs.Words.{answers, seeded, without}
 use Rattle.machine_spec.specs.First.{first_world}
 use Rattle.machine_spec.specs.Output.{Output, Ending as RunEnding, Whole, BadLine, Limited}
-use Rattle.machine_spec.specs.ScriptText.{lines_of}
+use Rattle.machine_spec.specs.ScriptText.{lines_of, script_limit}
 use Rattle.machine_spec.specs.Tasks.{Task}
 use Rattle.machine_spec.specs.World.{World}
 use Rattle.saved_spec.specs.Ranges.{IsRun, IsTask}
-use Rattle.saved_spec.specs.Saved.{snapshot, longest}
+use Rattle.saved_spec.specs.Saved.{snapshot, saved_limit}
 use Rattle.project_spec.specs.Basis.{Basis}
 use Rattle.saved_spec.specs.Laws.{OneAnswer}
 use Rattle.saved_spec.specs.Legal.{told}
@@ -26,13 +26,12 @@ use Rattle.script_play.specs.Limits.{limit_save_line}
 use Rattle.script_play.specs.declared.stops.PlayStop.{PlayStop}
 use Rattle.script_play.specs.declared.stops.PlayStop.TheVariants.{BadScript, Limit, WriteFault, NoMemory}
 use Rattle.play_command.specs.Command.{Form, ResumeForm, play, resume}
-use Rattle.play_command.specs.Limits.{saved_limit, script_limit}
 use Rattle.project_spec.specs.Limits.{project_limit}
 use Rattle.play_command.specs.Outcome.{accepted, Bases, continued, ran, unsaved, all_of, at_ending, fetched, outcome_of, output_from, output_of, resume_outcome, text_of_run, words_of}
 use Rattle.play_command.specs.Resuming.{Resumable, SavesAgain, TellsAgain}
 use Rattle.play_command.specs.Saving.{IsSavedAs, RunLaws, SavesInRange}
 use Rattle.play_command.specs.Stages.{played_as}
-use Rattle.play_command.specs.declared.saving.Saving.{Saving}
+use Rattle.play_command.specs.declared.playback.Saving.{Saving}
 use Rattle.play_command.proofs.Readings.{IsFetchedFile, fetched_ok, one_basis, one_told}
 
 -- The words of a seed.
@@ -62,7 +61,7 @@ module _ (laws : RunLaws) (b : Basis) (good : IsGood b) (project : List ℕ) (se
   ending_again : (name : List ℕ) (saving : Saving) (writes : List (List ℕ)) (ending : RunEnding) → IsSavedAs (Some name) (sha256 project) seed (Some saving) → ((last : World Task) → ending ≡ Whole last → IsLegalRun b.program seed last)
       → SavesInRange (Some saving) ending (Ok tt) → SavesAgain b project seed (at_ending (text_of_run project seed) writes ending)
   ending_again name saving writes (Whole w) is legal ranges =
-      put_again (ltb longest (length (text_of_run project seed w))) w writes is.3 (legal w refl)
+      put_again (ltb saved_limit (length (text_of_run project seed w))) w writes is.3 (legal w refl)
       (subst (λ n. IsRun IsTask (snapshot (sha256 project) n w)) is.2 (subst (λ d. IsRun IsTask (snapshot d saving.seed w)) is.1 ranges))
   ending_again name saving writes (BadLine r) is legal ranges = λ last text e f. absurd (cc f)
   ending_again name saving writes (Limited s) is legal ranges = λ last text e f. absurd (cc f)

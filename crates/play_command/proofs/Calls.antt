@@ -17,7 +17,8 @@ use Rattle.saved_spec.specs.Laws.{OneAnswer, OneRefusal}
 use Rattle.saved_spec.specs.Refusals.{IsRefused, IsAccepted as IsSavedRun}
 use Rattle.saved_spec.specs.RunShapes.{Told}
 use Rattle.saved_spec.specs.declared.refusals.SaveRefusal.{SaveRefusal}
-use Rattle.run_save.specs.Statuses.{text_of_refusal, text_of_save_refusal}
+use Rattle.project_spec.specs.RuleNames.{project_rule}
+use Rattle.saved_spec.specs.RuleNames.{saved_rule}
 use Rattle.run_save.specs.declared.status.Which.TheVariants as which
 use Rattle.run_save.specs.declared.status.Status.TheVariants.{ReadFault, NoMemory}
 use Rattle.script_play.specs.Lines.{IsWriteEnd}
@@ -26,7 +27,8 @@ use Rattle.script_play.specs.declared.stops.PlayStop.{PlayStop}
 use Rattle.script_play.specs.declared.stops.PlayStop.TheVariants as stop
 use Rattle.play_command.specs.Causes.{IsFetched}
 use Rattle.play_command.specs.Command.{Form, ResumeForm, play, resume, check}
-use Rattle.play_command.specs.Limits.{saved_limit, script_limit}
+use Rattle.machine_spec.specs.ScriptText.{script_limit}
+use Rattle.saved_spec.specs.Saved.{saved_limit}
 use Rattle.project_spec.specs.Limits.{project_limit}
 use Rattle.play_command.specs.Outcome.{refused, accepted, Bases, Loads, Checks, rejected, continued, too_large, not_accepted, not_continued, unloaded, Outcome, all_of, fetched, words_of, output_of, output_from, text_of_run, accepted_line, told_counts}
 use Rattle.play_command.specs.Resuming.{Resumable}
@@ -59,9 +61,9 @@ check_unfetched project s t k e h =
       some = large_one Checks (λ files bytes. told_counts) (λ o. o.ending ≡ unloaded (too_large which.Project project_limit)) s.held project above refl;
     })
 
-pub check_refused : (project bytes : List ℕ) (s t : ShelfNow) (k : SinkNow) (r : Refusal) → Reached 1 s t → IsFetchedFile s.held project project_limit bytes → LoadsProject bytes (Err r) → Completes (check project) s t k k (refused_by r (text_of_refusal r))
+pub check_refused : (project bytes : List ℕ) (s t : ShelfNow) (k : SinkNow) (r : Refusal) → Reached 1 s t → IsFetchedFile s.held project project_limit bytes → LoadsProject bytes (Err r) → Completes (check project) s t k k (refused_by r (project_rule r))
 check_refused project bytes s t k r reached file h =
-    completes_refused (check project) s t k r (text_of_refusal r) reached (omega arith) refl
+    completes_refused (check project) s t k r (project_rule r) reached (omega arith) refl
     (λ some. record {
       all = read_all Checks (λ files b. told_counts) (λ o. o.ending ≡ unloaded (not_accepted r)) s.held project bytes (refused r) (check_reading bytes) file (load_cause bytes r h some) (everywhere s.held refl);
       some = read_one Checks (λ files b. told_counts) (λ o. o.ending ≡ unloaded (not_accepted r)) s.held project bytes (refused r) file (load_cause bytes r h some) (everywhere s.held refl);
@@ -96,9 +98,9 @@ play_unfetched form s t k e h =
       some = large_one Loads (after_load form) (λ o. o.ending ≡ unloaded (too_large which.Project project_limit)) s.held form.project above refl;
     })
 
-pub play_refused : (form : Form) (bytes : List ℕ) (s t : ShelfNow) (k : SinkNow) (r : Refusal) → Reached 1 s t → IsFetchedFile s.held form.project project_limit bytes → LoadsProject bytes (Err r) → Completes (play form) s t k k (refused_by r (text_of_refusal r))
+pub play_refused : (form : Form) (bytes : List ℕ) (s t : ShelfNow) (k : SinkNow) (r : Refusal) → Reached 1 s t → IsFetchedFile s.held form.project project_limit bytes → LoadsProject bytes (Err r) → Completes (play form) s t k k (refused_by r (project_rule r))
 play_refused form bytes s t k r reached file h =
-    completes_refused (play form) s t k r (text_of_refusal r) reached (omega arith) refl
+    completes_refused (play form) s t k r (project_rule r) reached (omega arith) refl
     (λ some. record {
       all = read_all Loads (after_load form) (λ o. o.ending ≡ unloaded (not_accepted r)) s.held form.project bytes (refused r) (project_reading bytes) file (load_cause bytes r h some) (everywhere s.held refl);
       some = read_one Loads (after_load form) (λ o. o.ending ≡ unloaded (not_accepted r)) s.held form.project bytes (refused r) file (load_cause bytes r h some) (everywhere s.held refl);
@@ -146,9 +148,9 @@ resume_unfetched form s t k e h =
     (λ w. always s.held (resume form) (Cause (resume form) s t NoMemory) (λ o. inl w))
     (λ above. resume_large (λ o. o.ending ≡ unloaded (too_large which.Project project_limit)) s.held form above refl)
 
-pub resume_unloaded : (form : ResumeForm) (bytes : List ℕ) (s t : ShelfNow) (k : SinkNow) (r : Refusal) → Reached 1 s t → IsFetchedFile s.held form.project project_limit bytes → LoadsProject bytes (Err r) → Completes (resume form) s t k k (refused_by r (text_of_refusal r))
+pub resume_unloaded : (form : ResumeForm) (bytes : List ℕ) (s t : ShelfNow) (k : SinkNow) (r : Refusal) → Reached 1 s t → IsFetchedFile s.held form.project project_limit bytes → LoadsProject bytes (Err r) → Completes (resume form) s t k k (refused_by r (project_rule r))
 resume_unloaded form bytes s t k r reached file h =
-    completes_refused (resume form) s t k r (text_of_refusal r) reached (omega arith) refl
+    completes_refused (resume form) s t k r (project_rule r) reached (omega arith) refl
     (λ some. resume_refused (λ o. o.ending ≡ unloaded (not_accepted r)) s.held form bytes r file (load_cause bytes r h some) refl)
     (resume_loading (λ o. IsFetched o.ending) s.held form bytes file
     (λ files loading continuing. loading_fetched loading (after_basis form files bytes continuing) (λ b. is_fetched _ (basis_loaded form files bytes continuing b))))
@@ -162,9 +164,9 @@ resume_unsaved form bytes b s m t k e reached h file is =
     (λ above. saved_large (λ o. o.ending ≡ unloaded (too_large which.Saved saved_limit)) s.held form bytes b file is above refl)
 
 pub resume_rejected : (one : OneAnswer) (law : OneRefusal) (form : ResumeForm) (bytes saved : List ℕ) (b : Basis) (s t : ShelfNow) (k : SinkNow) (r : SaveRefusal) → Reached 2 s t → IsFetchedFile s.held form.project project_limit bytes
-    → Bases bytes (accepted b) → IsFetchedFile s.held form.saved saved_limit saved → IsRefused b (sha256 bytes) saved r → Completes (resume form) s t k k (rejected_by r (text_of_save_refusal r))
+    → Bases bytes (accepted b) → IsFetchedFile s.held form.saved saved_limit saved → IsRefused b (sha256 bytes) saved r → Completes (resume form) s t k k (rejected_by r (saved_rule r))
 resume_rejected one law form bytes saved b s t k r reached file is kept h =
-    completes_rejected (resume form) s t k r (text_of_save_refusal r) reached (omega arith) refl
+    completes_rejected (resume form) s t k r (saved_rule r) reached (omega arith) refl
     (λ some. saved_read one law (λ o. o.ending ≡ unloaded (not_continued r)) s.held form bytes b saved (rejected r) file is kept (is_no_memory r some, h) (λ files same. refl))
     (saved_continuing (λ o. IsFetched o.ending) s.held form bytes b saved file is kept (λ files continuing same c. is_fetched _ (continuing_loaded form files bytes continuing b)))
 

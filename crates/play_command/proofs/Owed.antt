@@ -15,7 +15,8 @@ use Rattle.call_outcomes.proofs.Writings.{front_none, writes_put}
 use Rattle.sv_channels.specs.Shelf.{IsHeldAbove}
 use Rattle.project_spec.specs.declared.refusals.Refusal.{Refusal}
 use Rattle.saved_spec.specs.declared.refusals.SaveRefusal.{SaveRefusal}
-use Rattle.run_save.specs.Statuses.{text_of_refusal, text_of_save_refusal}
+use Rattle.project_spec.specs.RuleNames.{project_rule}
+use Rattle.saved_spec.specs.RuleNames.{saved_rule}
 use Rattle.run_save.specs.declared.status.Which.{Which}
 use Rattle.run_save.specs.declared.status.Status.{Status}
 use Rattle.run_save.specs.declared.status.Status.TheVariants.{Done, Usage, ReadFault, WriteFault, BadProject, BadSave, BadScript, Limit, TooLarge, NoMemory}
@@ -176,23 +177,23 @@ completes_unfetched command file n name limit s m t k fetch.NoMemory r h f few a
 
 -- A file is refused
 
-pub completes_refused : (command : Command) (s t : ShelfNow) (k : SinkNow) (r : Refusal) (text : Option (List ℕ)) → Reached 1 s t → 1 ≤ files_of command → text ≡ text_of_refusal r
-    → (IsSome (text_of_refusal r) → Both s.held command (λ o. o.ending ≡ unloaded (not_accepted r))) → Promised s.held command (λ o. IsFetched o.ending) → Completes command s t k k (refused_by r text)
+pub completes_refused : (command : Command) (s t : ShelfNow) (k : SinkNow) (r : Refusal) (text : Option (List ℕ)) → Reached 1 s t → 1 ≤ files_of command → text ≡ project_rule r
+    → (IsSome (project_rule r) → Both s.held command (λ o. o.ending ≡ unloaded (not_accepted r))) → Promised s.held command (λ o. IsFetched o.ending) → Completes command s t k k (refused_by r text)
 completes_refused command s t k r None reached few e both fetched =
     early command s t k NoMemory tt reached.held (costs_wanting command (name_of_save command) 1 (files_of command) s t k reached few) tt
     (promised_map s.held command (λ o. IsFetched o.ending) (Cause command s t NoMemory) (λ o h. inr h) fetched) tt
 completes_refused command s t k r (Some x) reached few e both fetched =
-    let some : IsSome (text_of_refusal r) = subst (λ o. IsSome o) e refl in
+    let some : IsSome (project_rule r) = subst (λ o. IsSome o) e refl in
     let found = both some in
     early command s t k (BadProject r) tt reached.held (costs_silent command (name_of_save command) 1 1 s t k reached refl) some found.all found.some
 
-pub completes_rejected : (command : Command) (s t : ShelfNow) (k : SinkNow) (r : SaveRefusal) (text : Option (List ℕ)) → Reached 2 s t → 2 ≤ files_of command → text ≡ text_of_save_refusal r
-    → (IsSome (text_of_save_refusal r) → Both s.held command (λ o. o.ending ≡ unloaded (not_continued r))) → Promised s.held command (λ o. IsFetched o.ending) → Completes command s t k k (rejected_by r text)
+pub completes_rejected : (command : Command) (s t : ShelfNow) (k : SinkNow) (r : SaveRefusal) (text : Option (List ℕ)) → Reached 2 s t → 2 ≤ files_of command → text ≡ saved_rule r
+    → (IsSome (saved_rule r) → Both s.held command (λ o. o.ending ≡ unloaded (not_continued r))) → Promised s.held command (λ o. IsFetched o.ending) → Completes command s t k k (rejected_by r text)
 completes_rejected command s t k r None reached few e both fetched =
     early command s t k NoMemory tt reached.held (costs_wanting command (name_of_save command) 2 (files_of command) s t k reached few) tt
     (promised_map s.held command (λ o. IsFetched o.ending) (Cause command s t NoMemory) (λ o h. inr h) fetched) tt
 completes_rejected command s t k r (Some x) reached few e both fetched =
-    let some : IsSome (text_of_save_refusal r) = subst (λ o. IsSome o) e refl in
+    let some : IsSome (saved_rule r) = subst (λ o. IsSome o) e refl in
     let found = both some in
     early command s t k (BadSave r) tt reached.held (costs_silent command (name_of_save command) 2 2 s t k reached refl) some found.all found.some
 

@@ -6,13 +6,13 @@ use Rattle.machine_spec.specs.Output.{Output, Ending as RunEnding, Whole, BadLin
 use Rattle.machine_spec.specs.Program.{Program}
 use Rattle.machine_spec.specs.Tasks.{Task}
 use Rattle.machine_spec.specs.World.{World}
-use Rattle.saved_spec.specs.Saved.{longest}
+use Rattle.saved_spec.specs.Saved.{saved_limit}
 use Rattle.project_spec.specs.Basis.{Basis}
 use Rattle.saved_spec.specs.RunShapes.{Told}
 use Rattle.run_save.specs.declared.status.Which.TheVariants as which
 use Rattle.play_command.specs.Causes.{IsFetched, IsLoaded, IsReady}
 use Rattle.play_command.specs.Command.{Form, ResumeForm}
-use Rattle.play_command.specs.Limits.{saved_limit, script_limit}
+use Rattle.machine_spec.specs.ScriptText.{script_limit}
 use Rattle.play_command.specs.Outcome.{Loading, refused, accepted, Continuing, rejected, continued, missing, too_large, not_accepted, not_continued, Ending, unloaded, told, ran, unsaved, Outcome, ends, all_of, at_ending, fetched, loaded, told_to, words_of, output_of, output_from, text_of_run}
 
 -- what follows a project that is played, and one that is gone on with
@@ -33,7 +33,7 @@ put_ending true o p h k = h
 put_ending false o p h k = k
 
 run_ending : (text : World Task → List ℕ) (writes : List (List ℕ)) (ending : RunEnding) → IsReady (at_ending text writes ending).ending
-run_ending text writes (Whole last) = put_ending (ltb longest (length (text last))) _ _ tt tt
+run_ending text writes (Whole last) = put_ending (ltb saved_limit (length (text last))) _ _ tt tt
 run_ending text writes (BadLine r) = tt
 run_ending text writes (Limited s) = tt
 

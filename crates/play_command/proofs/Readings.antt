@@ -24,7 +24,8 @@ use Rattle.saved_spec.specs.Refusals.{IsRefused, IsAccepted as IsSavedRun}
 use Rattle.saved_spec.specs.RunShapes.{Told}
 use Rattle.saved_spec.specs.declared.refusals.SaveRefusal.{SaveRefusal}
 use Rattle.saved_spec.specs.declared.refusals.SaveRefusal.TheVariants as save_refusal
-use Rattle.run_save.specs.Statuses.{text_of_refusal, text_of_save_refusal}
+use Rattle.project_spec.specs.RuleNames.{project_rule}
+use Rattle.saved_spec.specs.RuleNames.{saved_rule}
 use Rattle.run_save.specs.declared.status.Which.{Which}
 use Rattle.play_command.specs.Outcome.{Loading, refused, accepted, Bases, Loads, Checks, counts_of, Continuing, rejected, continued, Continues, too_large, Outcome, ends, fetched}
 use Rattle.play_command.specs.declared.counts.Counts.{Counts}
@@ -116,7 +117,7 @@ pub loaded_counts : (bytes : List ℕ) (p : Project) → LoadsProject bytes (Ok 
 loaded_counts bytes p h = (h.file, h.accepted, ap (λ ts. record { targets = length ts; blocks = block_count ts }) h.tables)
 
 -- and of its refusal
-pub load_cause : (bytes : List ℕ) (r : Refusal) → LoadsProject bytes (Err r) → IsSome (text_of_refusal r) → IsRefusal bytes r
+pub load_cause : (bytes : List ℕ) (r : Refusal) → LoadsProject bytes (Err r) → IsSome (project_rule r) → IsRefusal bytes r
 load_cause bytes (refusal.Json f) h k = h
 load_cause bytes (refusal.Shape path) h k = h
 load_cause bytes (refusal.StageCount n) h k = h
@@ -153,5 +154,5 @@ one_continuing one law b project bytes (continued t) (continued u) p q = ap cont
 one_continuing one law b project bytes (rejected r) (continued t) p q = absurd (told_apart one b (sha256 project) bytes t r p.0 q p.1)
 one_continuing one law b project bytes (continued t) (rejected r) p q = absurd (told_apart one b (sha256 project) bytes t r q.0 p q.1)
 
-pub is_no_memory : (r : SaveRefusal) → IsSome (text_of_save_refusal r) → r ≡ save_refusal.NoMemory → ⊥
-is_no_memory r h e = cc (subst (λ x. IsSome (text_of_save_refusal x)) e h)
+pub is_no_memory : (r : SaveRefusal) → IsSome (saved_rule r) → r ≡ save_refusal.NoMemory → ⊥
+is_no_memory r h e = cc (subst (λ x. IsSome (saved_rule x)) e h)

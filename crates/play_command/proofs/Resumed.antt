@@ -11,7 +11,7 @@ use Rattle.saved_spec.specs.Laws.{OneAnswer, OneRefusal}
 use Rattle.saved_spec.specs.declared.refusals.SaveRefusal.TheVariants as save_refusal
 use Rattle.run_save.specs.declared.status.Which.TheVariants as which
 use Rattle.play_command.specs.Command.{ResumeForm, resume}
-use Rattle.play_command.specs.Limits.{saved_limit}
+use Rattle.saved_spec.specs.Saved.{saved_limit}
 use Rattle.project_spec.specs.Limits.{project_limit}
 use Rattle.play_command.specs.Outcome.{Loading, refused, accepted, Bases, Continuing, rejected, Continues, OfSaved, too_large, not_accepted, Outcome, ends, loaded, told_to}
 use Rattle.play_command.specs.Promise.{Promised, Found}

@@ -15,7 +15,7 @@ use Rattle.call_outcomes.proofs.Writings.{all_none, writes_none, writes_wanting,
 use Rattle.machine_spec.specs.Output.{Output, Ending as RunEnding, Whole, BadLine, Limited, ends}
 use Rattle.machine_spec.specs.Tasks.{Task}
 use Rattle.machine_spec.specs.World.{World}
-use Rattle.saved_spec.specs.Saved.{longest}
+use Rattle.saved_spec.specs.Saved.{saved_limit}
 use Rattle.run_save.specs.declared.status.Limit.{Limit as LimitMet}
 use Rattle.run_save.specs.declared.status.Limit.TheVariants as limit
 use Rattle.script_play.specs.Limits.{limit_save_line, IsLimitEnd}
@@ -28,7 +28,7 @@ use Rattle.play_command.specs.Causes.{is_whole, ending_at}
 use Rattle.play_command.specs.Outcome.{ran, unsaved, Outcome, only_written, all_of, at_ending, put_or_told, text_from, accepted_line, told_counts}
 use Rattle.play_command.specs.Saving.{EndsAs, IsSavedAs, name_in, text_in, put_stop}
 use Rattle.play_command.specs.declared.counts.Counts.{Counts}
-use Rattle.play_command.specs.declared.saving.Saving.{Saving}
+use Rattle.play_command.specs.declared.playback.Saving.{Saving}
 
 none_rose : (count : List ℕ → ℕ) → NoneRose count count
 none_rose count = λ name. refl
@@ -110,14 +110,14 @@ put_outcome text ending = record { texts = []; ending = ran ending; saved = Some
 abbrev pub long_outcome : (n : ℕ) → Outcome
 long_outcome n = record { texts = limit_save_line n ∷ []; ending = unsaved n; saved = None }
 
-pub is_put : (text : List ℕ) (ending : RunEnding) → length text ≤ longest → put_or_told text [] ending ≡ put_outcome text ending
+pub is_put : (text : List ℕ) (ending : RunEnding) → length text ≤ saved_limit → put_or_told text [] ending ≡ put_outcome text ending
 is_put text ending h =
-    let small : ltb longest (length text) ≡ false = grind (arith, nat_tests) in
+    let small : ltb saved_limit (length text) ≡ false = grind (arith, nat_tests) in
     ap (λ b. cond b (long_outcome (length text)) (put_outcome text ending)) small
 
-pub is_long : (text : List ℕ) (ending : RunEnding) → longest < length text → put_or_told text [] ending ≡ long_outcome (length text)
+pub is_long : (text : List ℕ) (ending : RunEnding) → saved_limit < length text → put_or_told text [] ending ≡ long_outcome (length text)
 is_long text ending h =
-    let large : ltb longest (length text) ≡ true = grind (arith, nat_tests) in
+    let large : ltb saved_limit (length text) ≡ true = grind (arith, nat_tests) in
     ap (λ b. cond b (long_outcome (length text)) (put_outcome text ending)) large
 
 pub ends_put : (name text : List ℕ) (w : World Task) (s t : ShelfNow) (k : SinkNow) → PutsOnce name text s t (Ok tt) → EndsAs (Some name) (put_outcome text (Whole w)) s t k k (Ok tt)
@@ -188,7 +188,7 @@ put_behind true text writes ending = refl
 put_behind false text writes ending = ap (λ ws. record { texts = ws; ending = ran ending; saved = Some text }) (sym (append-nil writes))
 
 ending_behind : (text : World Task → List ℕ) (writes : List (List ℕ)) (ending : RunEnding) → at_ending text writes ending ≡ behind writes (at_ending text [] ending)
-ending_behind text writes (Whole last) = put_behind (ltb longest (length (text last))) (text last) writes (Whole last)
+ending_behind text writes (Whole last) = put_behind (ltb saved_limit (length (text last))) (text last) writes (Whole last)
 ending_behind text writes (BadLine r) = ap (λ ws. only_written ws (BadLine r)) (sym (append-nil writes))
 ending_behind text writes (Limited stop) = ap (λ ws. only_written ws (Limited stop)) (sym (append-nil writes))
 

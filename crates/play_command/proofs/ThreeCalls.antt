@@ -9,10 +9,10 @@ use Rattle.sha2.specs.Sha256.{sha256}
 use Rattle.machine_spec.specs.First.{first_world}
 use Rattle.machine_spec.specs.Output.{Ending as RunEnding, Output, Whole, BadLine, Limited, ends, in_front, played}
 use Rattle.machine_spec.specs.Program.{Program}
-use Rattle.machine_spec.specs.ScriptText.{lines_of}
+use Rattle.machine_spec.specs.ScriptText.{lines_of, script_limit}
 use Rattle.machine_spec.specs.Tasks.{Task}
 use Rattle.machine_spec.specs.World.{World, as_saved}
-use Rattle.saved_spec.specs.Saved.{saved_text, snapshot, longest}
+use Rattle.saved_spec.specs.Saved.{saved_text, snapshot, saved_limit}
 use Rattle.saved_spec.specs.Tasks.{task}
 use Rattle.project_spec.specs.Basis.{Basis}
 use Rattle.saved_spec.specs.Laws.{OneAnswer}
@@ -23,7 +23,6 @@ use Rattle.laws_of_resuming.specs.Parts.{AlikeButRedraw, AreAlike, EndAlike, end
 use Rattle.play_command.specs.Command.{Form, ResumeForm}
 use Rattle.play_command.specs.Laws.{AreCalls, EndingsAgree, Parts, SaveAlike, TwoAreOne}
 use Rattle.project_spec.specs.Limits.{project_limit}
-use Rattle.play_command.specs.Limits.{saved_limit, script_limit}
 use Rattle.script_play.specs.Limits.{limit_save_line}
 use Rattle.play_command.specs.Resuming.{TellsAgain}
 use Rattle.play_command.specs.Outcome.{accepted, continued, Continues, Ending, ran, unsaved, fetched, Outcome, all_of, at_ending, outcome_of, output_from, output_of, put_or_told, resume_outcome, text_of_run, words_of}
@@ -38,25 +37,25 @@ same_text project seed w v h = ap (λ x. saved_text task (snapshot (sha256 proje
 
 pub record Ended (o : Outcome) (run : Output) (last : World Task) (text : List ℕ) : Type 0 where
   pub ran_so : run ≡ ends o.texts (Whole last)
-  pub short : length text ≤ longest
+  pub short : length text ≤ saved_limit
 
 abbrev by_length : Bool → List ℕ → List (List ℕ) → World Task → Outcome
 by_length c text writes w =
     cond c (record { texts = writes ++ limit_save_line (length text) ∷ []; ending = unsaved (length text); saved = None })
     (record { texts = writes; ending = ran (Whole w); saved = Some text })
 
-length_ended : (c : Bool) (put : List ℕ) (writes : List (List ℕ)) (w last : World Task) (text : List ℕ) → ltb longest (length put) ≡ c → (by_length c put writes w).ending ≡ ran (Whole last) → (by_length c put writes w).saved ≡ Some text
+length_ended : (c : Bool) (put : List ℕ) (writes : List (List ℕ)) (w last : World Task) (text : List ℕ) → ltb saved_limit (length put) ≡ c → (by_length c put writes w).ending ≡ ran (Whole last) → (by_length c put writes w).saved ≡ Some text
     → Ended (by_length c put writes w) (ends writes (Whole w)) last text
 length_ended true put writes w last text t e f = absurd (cc f)
 length_ended false put writes w last text t e f =
     let same : w ≡ last = cc e in
     let same_put : put ≡ text = cc f in
-    let small : length put ≤ longest = grind (arith, nat_tests) in
-    record { ran_so = ap (λ x. ends writes (Whole x)) same; short = subst (λ x. length x ≤ longest) same_put small }
+    let small : length put ≤ saved_limit = grind (arith, nat_tests) in
+    record { ran_so = ap (λ x. ends writes (Whole x)) same; short = subst (λ x. length x ≤ saved_limit) same_put small }
 
 ending_ended : (T : World Task → List ℕ) (writes : List (List ℕ)) (ending : RunEnding) (last : World Task) (text : List ℕ) → (at_ending T writes ending).ending ≡ ran (Whole last) → (at_ending T writes ending).saved ≡ Some text
     → Ended (at_ending T writes ending) (ends writes ending) last text
-ending_ended T writes (Whole w) last text e f = length_ended (ltb longest (length (T w))) (T w) writes w last text refl e f
+ending_ended T writes (Whole w) last text e f = length_ended (ltb saved_limit (length (T w))) (T w) writes w last text refl e f
 ending_ended T writes (BadLine r) last text e f = absurd (cc f)
 ending_ended T writes (Limited s) last text e f = absurd (cc f)
 
@@ -82,7 +81,7 @@ module _ (T : World Task → List ℕ) (same : (w v : World Task) → AlikeButRe
 
   put_follow : (writes more : List (List ℕ)) (w v : World Task) → more ≡ xs ++ writes → AlikeButRedraw v w → Follow (put_or_told (T w) writes (Whole w)) (put_or_told (T v) more (Whole v))
   put_follow writes more w v e h =
-      subst (λ text. Follow (put_or_told (T w) writes (Whole w)) (put_or_told text more (Whole v))) (sym (same v w h)) (by_length_follow (ltb longest (length (T w))) (T w) writes more w v e h)
+      subst (λ text. Follow (put_or_told (T w) writes (Whole w)) (put_or_told text more (Whole v))) (sym (same v w h)) (by_length_follow (ltb saved_limit (length (T w))) (T w) writes more w v e h)
 
   ending_follow : (writes more : List (List ℕ)) (e f : RunEnding) → more ≡ xs ++ writes → EndAlike f (ending_moved k e) → Follow (at_ending T writes e) (at_ending T more f)
   ending_follow writes more (Whole w) (Whole v) e h = put_follow writes more w v e h

@@ -3,7 +3,7 @@ use Rattle.std.specs.Prelude.{◌≡◌, ℕ, ◌≤◌, List, ◌++◌, length,
 use Rattle.std.specs.FinMap.{get}
 use Rattle.sv_channels.specs.Files.{Files}
 use Rattle.machine_spec.specs.Output.{Whole}
-use Rattle.machine_spec.specs.ScriptText.{lines_of}
+use Rattle.machine_spec.specs.ScriptText.{lines_of, script_limit}
 use Rattle.machine_spec.specs.Tasks.{Task}
 use Rattle.machine_spec.specs.World.{World}
 use Rattle.project_spec.specs.Basis.{Basis}
@@ -11,7 +11,6 @@ use Rattle.saved_spec.specs.RunShapes.{Told}
 use Rattle.laws_of_resuming.specs.Parts.{EndAlike, EndsALine, ending_moved}
 use Rattle.play_command.specs.Command.{Form, ResumeForm}
 use Rattle.project_spec.specs.Limits.{project_limit}
-use Rattle.play_command.specs.Limits.{script_limit}
 use Rattle.play_command.specs.Outcome.{accepted, continued, Continues, Ending, ran, Outcome, outcome_of, resume_outcome}
 use Rattle.play_command.specs.Resuming.{TellsAgain}
 

@@ -1,5 +1,4 @@
 pub mod WholeNumbers
-pub mod Limits
 pub mod Command
 pub mod Outcome
 pub mod Causes

@@ -14,7 +14,7 @@ use Rattle.machine_spec.specs.Words.{Words}
 use Rattle.machine_spec.specs.Program.{Program}
 use Rattle.machine_spec.specs.First.{first_world}
 use Rattle.machine_spec.specs.FrameText.{line}
-use Rattle.machine_spec.specs.ScriptText.{lines_of}
+use Rattle.machine_spec.specs.ScriptText.{lines_of, script_limit}
 use Rattle.machine_spec.specs.Output.{Output, Ending as RunEnding, Whole, played}
 use Rattle.machine_spec.specs.Tasks.{Task}
 use Rattle.machine_spec.specs.World.{World}
@@ -28,13 +28,12 @@ use Rattle.saved_spec.specs.Refusals.{IsRefused, IsAccepted as IsSavedRun}
 use Rattle.saved_spec.specs.RunShapes.{Told}
 use Rattle.saved_spec.specs.declared.refusals.SaveRefusal.{SaveRefusal}
 use Rattle.saved_spec.specs.declared.refusals.SaveRefusal.TheVariants as save_refusal
-use Rattle.saved_spec.specs.Saved.{snapshot, saved_text, longest}
+use Rattle.saved_spec.specs.Saved.{snapshot, saved_text, saved_limit}
 use Rattle.saved_spec.specs.Tasks.{task}
 use Rattle.run_save.specs.declared.status.Which.{Which}
 use Rattle.run_save.specs.declared.status.Which.TheVariants as which
 use Rattle.script_play.specs.Limits.{limit_save_line}
 use Rattle.play_command.specs.Command.{Form, ResumeForm}
-use Rattle.play_command.specs.Limits.{saved_limit, script_limit}
 use Rattle.project_spec.specs.Limits.{project_limit}
 use Rattle.play_command.specs.declared.counts.Counts.{Counts}
 
@@ -117,7 +116,7 @@ only_written writes ending = record { texts = writes; ending = ran ending; saved
 -- the text of a run that is saved is put where it has at most 128 MiB; else a line tells its length
 abbrev pub put_or_told : (text : List ℕ) → List (List ℕ) → RunEnding → Outcome
 put_or_told text writes ending =
-    if nat_lt longest (length text)
+    if nat_lt saved_limit (length text)
     then record { texts = writes ++ limit_save_line (length text) ∷ []; ending = unsaved (length text); saved = None }
     else record { texts = writes; ending = ran ending; saved = Some text }
 

@@ -24,7 +24,7 @@ use Rattle.script_play.specs.declared.stops.PlayStop.{PlayStop}
 use Rattle.script_play.specs.declared.stops.PlayStop.TheVariants.{BadScript, Limit, WriteFault, NoMemory}
 use Rattle.play_command.specs.Causes.{is_whole, ending_at}
 use Rattle.play_command.specs.Outcome.{Ending, ran, Outcome, text_from}
-use Rattle.play_command.specs.declared.saving.Saving.{Saving}
+use Rattle.play_command.specs.declared.playback.Saving.{Saving}
 
 -- the name under which a run is saved, and the text that it is saved as
 abbrev pub name_in : Option Saving → Option (List ℕ)

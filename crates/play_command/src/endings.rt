@@ -1,11 +1,12 @@
 //! How a call ends, by what its stages answer.
 
 ghost use Rattle.std.specs.Prelude.{◌≡◌};
-ghost use Rattle.run_save.specs.Statuses.{text_of_refusal, text_of_save_refusal};
+ghost use Rattle.project_spec.specs.RuleNames.{project_rule};
+ghost use Rattle.saved_spec.specs.RuleNames.{saved_rule};
 ghost use Rattle.play_command.specs.Stages.{unfetched, refused_by, rejected_by, played_as};
 
 use project_spec::Refusal;
-use run_save::{Status, Which, refusal_name, save_refusal_name};
+use run_save::{Status, Which};
 use saved_spec::SaveRefusal;
 use script_play::PlayStop;
 use sv_channels::FetchError;
@@ -23,9 +24,9 @@ pub(crate) fn unfetched(which: Which, error: FetchError) -> Status
 
 // How a call ends where a project is refused.
 pub(crate) fn refused(refusal: Refusal) -> Status
-    ensures { result ≡ refused_by refusal (text_of_refusal refusal) }
+    ensures { result ≡ refused_by refusal (project_rule refusal) }
 {
-    match refusal_name(&refusal) {
+    match refusal.rule() {
         Some(_) => Status::BadProject(refusal),
         None => Status::NoMemory,
     }
@@ -33,9 +34,9 @@ pub(crate) fn refused(refusal: Refusal) -> Status
 
 // How a call ends where a saved run is refused.
 pub(crate) fn rejected(refusal: SaveRefusal) -> Status
-    ensures { result ≡ rejected_by refusal (text_of_save_refusal refusal) }
+    ensures { result ≡ rejected_by refusal (saved_rule refusal) }
 {
-    match save_refusal_name(&refusal) {
+    match refusal.rule() {
         Some(_) => Status::BadSave(refusal),
         None => Status::NoMemory,
     }

@@ -6,10 +6,10 @@ mod command;
 mod counts;
 mod endings;
 mod laws;
-mod saving;
+mod playback;
 mod top;
 mod whole_numbers;
 
 pub use laws::two_parts_of_a_script_are_the_whole;
-pub use run_save::{Limit, Status, Which, exit_number, status_text, told};
+pub use run_save::{Detail, Limit, Status, Which, exit_number, status_text, told};
 pub use top::play;

@@ -10,6 +10,7 @@ ghost use Rattle.project_check.specs.Loaded.{tables_of};
 ghost use Rattle.script_play.specs.Lines.{IsWriteEnd};
 ghost use Rattle.script_play.specs.Stops.{course};
 ghost use Rattle.play_command.specs.Command.{play as play_of, resume as resume_of, check as check_of, command_of};
+ghost use Rattle.play_command.specs.Laws.{CallsAgree};
 ghost use Rattle.play_command.specs.Outcome.{accepted_line};
 ghost use Rattle.play_command.specs.Promise.{Asked, Plays};
 ghost use Rattle.play_command.specs.Resuming.{Resumable};
@@ -19,21 +20,19 @@ ghost use Rattle.play_command.specs.Stages.{Completes};
 use crate::command::{Command, command_of};
 use crate::counts::{Counts, accepted_line};
 use crate::endings::{played, refused, rejected, unfetched};
-use crate::saving::{Saving, play_first, play_on, runs_are_told_again, saving_of};
-use call_outcomes::{fetch, write_text};
+use crate::laws::two_parts_of_a_script_are_the_whole;
+use crate::playback::{Saving, play_first, play_on, runs_are_told_again, saving_of};
+use call_outcomes::fetch;
+use machine_spec::SCRIPT_LIMIT;
 use project_check::{Project, load};
+use project_spec::PROJECT_LIMIT;
 use run_save::{Status, Which, load as load_run};
 use saved_spec::one_answer_at_most;
-use script_play::PlayStop;
+use saved_text::SAVED_LIMIT;
+use script_play::{PlayStop, write};
 use sha2::{Digest, Sha256};
 use std::alloc::Global;
-use sv_channels::{Shelf, Sink, SinkError};
-
-const PROJECT_LIMIT: u64 = 33_554_432;
-
-const SAVED_LIMIT: u64 = 134_217_728;
-
-const SCRIPT_LIMIT: u64 = 16_777_216;
+use sv_channels::{Shelf, Sink};
 
 // How a run of a project file is saved, where there is a name to save it under: only then is the file's digest worked out.
 fn first_saving<'a>(save: Option<&'a str>, file: &[u8], seed: u64) -> Option<Saving<'a>>
@@ -138,11 +137,7 @@ fn tell_counts<K: Sink>(alloc: Global, counts: Counts, out: &mut K) -> Result<()
     let Ok(line) = accepted_line(alloc, counts) else {
         return Err(PlayStop::NoMemory);
     };
-    match write_text(alloc, &line, out) {
-        Ok(()) => Ok(()),
-        Err(SinkError::Failed) => Err(PlayStop::WriteFault),
-        Err(SinkError::NoMemory) => Err(PlayStop::NoMemory),
-    }
+    write(alloc, &line, out)
 }
 
 // Fetches the project, checks it, and writes what it has.
@@ -189,7 +184,11 @@ pub fn play<H: Shelf, K: Sink>(
 
     // What was saved is accepted again, and tells the last world of the run.
     ensures resumable { Asked (map string_bytes words.now) (λ command. Resumable (H.held shelf.old) command result) }
+
+    // Two calls that play a script in parts, with the saved run between them, and one that plays it whole agree.
+    ensures parts { CallsAgree }
 {
+    two_parts_of_a_script_are_the_whole();
     match command_of(words) {
         None => Status::Usage,
         Some(

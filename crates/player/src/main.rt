@@ -3,7 +3,7 @@
 
 use call_outcomes::{edges_of, tell};
 use itoa::Buffer;
-use play_command::{Status, exit_number, play, told};
+use play_command::{Detail, Status, exit_number, play, told};
 use std::env;
 use std::process::ExitCode;
 use sv_channels::{WordsError, words_of};
@@ -24,13 +24,14 @@ fn run(rt: &HostRuntime) -> Status {
 fn main(rt: HostRuntime) -> ExitCode {
     let status = run(&rt);
     if !matches!(status, Status::Done) {
-        let (name, line) = told(&status);
+        let (name, detail) = told(&status);
         let mut buffer = Buffer::new();
-        let digits = match line {
-            Some(line) => buffer.format(line),
-            None => "",
+        let rest = match detail {
+            Detail::Nothing => "",
+            Detail::Rule(rule) => rule,
+            Detail::Line(line) => buffer.format(line),
         };
-        tell(&rt, name, digits);
+        tell(&rt, name, rest);
     }
     ExitCode::from(exit_number(&status))
 }

@@ -26,7 +26,7 @@ use Rattle.block_checks.specs.Kept.{Kept, IsKept, IsRefusal as IsBlockRefusal}
 use Rattle.name_resolving.specs.Room.{HasRoom}
 use Rattle.block_table.specs.declared.table.BlockTable.{BlockTable}
 use Rattle.block_table.specs.Table.{Numbered, numbered}
-use Rattle.project_check.specs.declared.measuring.Measured.{Measured}
+use Rattle.project_check.specs.declared.sizes.Measured.{Measured}
 use Rattle.project_check.specs.File.{file_in}
 use Rattle.target_records.specs.Costumes.{IsDressed}
 use Rattle.project_check.specs.Measured.{IsMeasured, IsRead}

@@ -15,7 +15,7 @@ use Rattle.block_table.specs.declared.refusal.BlockRefusal.TheVariants as block_
 use Rattle.target_records.specs.declared.refusal.RecordRefusal.{RecordRefusal}
 use Rattle.target_records.specs.declared.refusal.RecordRefusal.TheVariants as record_refusal
 use Rattle.target_records.specs.Records.{records_in}
-use Rattle.project_check.specs.declared.measuring.Measured.{Measured}
+use Rattle.project_check.specs.declared.sizes.Measured.{Measured}
 
 -- how many targets, monitors and blocks there are
 abbrev pub counts_in : File → List Measure

@@ -5,14 +5,14 @@
 mod file;
 mod heads;
 mod laws;
-mod loading;
-mod measuring;
+mod loader;
 mod procedures;
 mod project;
+mod sizes;
 
 pub use heads::Heads;
 pub use laws::{every_project_is_linked, every_project_is_of_an_accepted_file};
-pub use loading::load;
+pub use loader::load;
 pub use procedures::Callee;
 pub use project::Project;
 pub use project_spec::{At, Refusal};

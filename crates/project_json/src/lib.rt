@@ -1,17 +1,17 @@
 //! Reads JSON texts (RFC 8259) into documents, and looks their parts up.
 #![tactic(auto)]
 
-mod joining;
 mod json;
 mod laws;
 mod member_list;
 mod numbers;
 mod parts;
 mod pieces;
-mod reading;
+mod reader;
 mod refusal;
-mod scanning;
+mod scanner;
 mod stop;
+mod string_texts;
 mod strings;
 mod text;
 
@@ -21,6 +21,6 @@ pub use laws::{
     text_has_no_fault, text_or_fault,
 };
 pub use parts::{digits_of, is_null, items_of, member, members_of, text_of, truth_of, value_named};
-pub use reading::read;
+pub use reader::read;
 pub use refusal::JsonRefusal;
 pub use text::{Decimal, Text, Texts};

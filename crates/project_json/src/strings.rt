@@ -3,9 +3,9 @@
 ghost use Rattle.std.specs.Prelude.{◌≡◌};
 ghost use Rattle.project_json.specs.Reading.{Gives, Utf8, chars_at, name_at};
 
-use crate::joining::chars;
-use crate::scanning::{after_byte, skip};
+use crate::scanner::{after_byte, skip};
 use crate::stop::Stop;
+use crate::string_texts::chars;
 use crate::text::Text;
 use std::alloc::Global;
 

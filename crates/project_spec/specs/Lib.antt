@@ -11,4 +11,5 @@ pub mod TreeAt
 pub mod Unrolling
 pub mod Reading
 pub mod Refusals
+pub mod RuleNames
 pub mod Basis

@@ -4,6 +4,7 @@
 
 mod blocks;
 mod laws;
+mod limits;
 mod refusals;
 mod values;
 
@@ -14,5 +15,6 @@ pub use laws::{
     a_file_has_one_answer, a_link_has_one_script, a_link_of_ranked_blocks_has_its_script,
     a_script_unrolls, an_expression_unrolls,
 };
+pub use limits::{MOST_MONITORS, MOST_TARGETS, PROJECT_LIMIT};
 pub use refusals::{At, MutationRefusal, Refusal};
 pub use values::{FileValue, num, value};

@@ -55,6 +55,38 @@ pub enum Refusal {
     NoMemory,
 }
 
+impl Refusal {
+    ghost use Rattle.std.specs.Prelude.{◌≡◌, option_map};
+    ghost use Rattle.project_spec.specs.RuleNames.{project_rule};
+
+    /// The name of the rule that is broken, `P1` to `P11`, or `None` where memory ran out. docs/refusals.md has an example of
+    /// each rule.
+    pub fn rule(&self) -> Option<&'static str>
+        ensures { option_map (λ rule. rule.now) result ≡ project_rule self.now }
+    {
+        match self {
+            Refusal::Json(JsonRefusal::NoMemory) => None,
+            Refusal::Json(JsonRefusal::NotUtf8 { .. }) => Some("P1"),
+            Refusal::Json(JsonRefusal::Syntax { .. }) => Some("P1"),
+            Refusal::Json(JsonRefusal::TooDeep { .. }) => Some("P1"),
+            Refusal::Shape { .. } => Some("P2"),
+            Refusal::StageCount { .. } => Some("P3"),
+            Refusal::TooMany { .. } => Some("P4"),
+            Refusal::Mutation(_, MutationRefusal::NoMemory) => None,
+            Refusal::Mutation(_, MutationRefusal::Missing) => Some("P11"),
+            Refusal::Mutation(_, MutationRefusal::BadText) => Some("P11"),
+            Refusal::Mutation(_, MutationRefusal::LengthsDiffer) => Some("P11"),
+            Refusal::Dangling { .. } => Some("P6"),
+            Refusal::Cyclic { .. } => Some("P7"),
+            Refusal::Opcode { .. } => Some("P5"),
+            Refusal::MissingInput { .. } => Some("P8"),
+            Refusal::Field { .. } => Some("P9"),
+            Refusal::TooDeep { .. } => Some("P10"),
+            Refusal::NoMemory => None,
+        }
+    }
+}
+
 impl From<AllocError> for Refusal {
     ghost from_gives = { λ _ e. e ≡ NoMemory };
 

@@ -1,6 +1,6 @@
 //! Texts in quotes, as the lines of a frame and of a report have them.
 #![tactic(auto)]
 
-mod quoting;
+mod quotes;
 
-pub use quoting::{push_inner, push_quoted};
+pub use quotes::{push_inner, push_quoted};

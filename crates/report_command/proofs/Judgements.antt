@@ -11,13 +11,13 @@ use Rattle.project_spec.specs.declared.refusals.Refusal.TheVariants as refusal
 use Rattle.project_spec.specs.Refusals.{IsRefusal}
 use Rattle.project_check.specs.Loaded.{Loads, IsLoaded as IsLoadedProject, tables_of}
 use Rattle.project_check.specs.declared.project.Project.{Project}
-use Rattle.report_command.specs.Advice.{rule_of}
+use Rattle.project_spec.specs.RuleNames.{project_rule}
 use Rattle.report_command.specs.Counts.{AreCounts}
 use Rattle.report_command.specs.Verdict.{IsCounted}
 use Rattle.report_command.specs.declared.counts.Counts.{Counts}
 
 -- a refusal of the loader that is no want of memory
-pub cause : (bytes : List ℕ) (r : Refusal) → Loads bytes (Err r) → IsSome (rule_of r) → IsRefusal bytes r
+pub cause : (bytes : List ℕ) (r : Refusal) → Loads bytes (Err r) → IsSome (project_rule r) → IsRefusal bytes r
 cause bytes (refusal.Json f) h k = h
 cause bytes (refusal.Shape path) h k = h
 cause bytes (refusal.StageCount n) h k = h

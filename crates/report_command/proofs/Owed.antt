@@ -16,12 +16,12 @@ use Rattle.call_outcomes.specs.Stages.{Fetches, Writes}
 use Rattle.call_outcomes.specs.Writes.{Wrote, IsSilent}
 use Rattle.call_outcomes.proofs.Writings.{front_none, writes_silent}
 use Rattle.project_spec.specs.declared.refusals.Refusal.{Refusal}
-use Rattle.report_command.specs.Advice.{rule_of}
+use Rattle.project_spec.specs.RuleNames.{project_rule}
 use Rattle.report_command.specs.Promise.{course, Ending, missing, too_large, said, Tells, IsFetched, HoldsNoWant, AnswerCause, Promised, IsFound, texts_of, WantWroteNothing, Owes}
 use Rattle.project_spec.specs.Limits.{project_limit}
 use Rattle.report_command.specs.Stages.{unfetched, IsJudged, ToldOf}
 use Rattle.report_command.specs.Verdict.{Verdict, accepted, refused, refusal_in, verdict_text}
-use Rattle.report_command.specs.declared.judging.Judged.{Judged}
+use Rattle.report_command.specs.declared.judgement.Judged.{Judged}
 use Rattle.report_command.specs.declared.status.Status.{Status}
 use Rattle.report_command.specs.declared.status.Status.TheVariants.{Done, Usage, ReadFault, WriteFault, BadProject, TooLarge, NoMemory}
 use Rattle.report_command.proofs.OneVerdict.{at_verdict, at_fetched, at_large, always, found_verdict}
@@ -126,9 +126,9 @@ told_cause f w v r Usage e h = absurd h
 told_cause f w v r ReadFault e h = absurd h
 told_cause f w v r (TooLarge l) e h = absurd h
 
-told_pure : (r : Option Refusal) (status : Status) → IfSome r (λ x. IsSome (rule_of x)) → ToldOf r status → HoldsNoWant status
+told_pure : (r : Option Refusal) (status : Status) → IfSome r (λ x. IsSome (project_rule x)) → ToldOf r status → HoldsNoWant status
 told_pure r Done k h = tt
-told_pure r (BadProject x) k h = subst (λ o. IfSome o (λ y. IsSome (rule_of y))) h k
+told_pure r (BadProject x) k h = subst (λ o. IfSome o (λ y. IsSome (project_rule y))) h k
 told_pure r WriteFault k h = tt
 told_pure r NoMemory k h = tt
 told_pure r Usage k h = absurd h

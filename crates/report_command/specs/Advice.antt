@@ -7,27 +7,6 @@ use Rattle.project_spec.specs.declared.refusals.MutationRefusal.TheVariants as m
 use Rattle.project_spec.specs.declared.refusals.Refusal.{Refusal}
 use Rattle.project_spec.specs.declared.refusals.Refusal.TheVariants as refusal
 
--- the rule that is broken; want of memory breaks none
-abbrev pub rule_of : Refusal → Option (List ℕ)
-rule_of (refusal.Json (json_refusal.NotUtf8 at)) = Some (codes "P1")
-rule_of (refusal.Json (json_refusal.Syntax at)) = Some (codes "P1")
-rule_of (refusal.Json (json_refusal.TooDeep at)) = Some (codes "P1")
-rule_of (refusal.Json json_refusal.NoMemory) = None
-rule_of (refusal.Shape path) = Some (codes "P2")
-rule_of (refusal.StageCount n) = Some (codes "P3")
-rule_of (refusal.TooMany path) = Some (codes "P4")
-rule_of (refusal.Mutation at mutation_refusal.Missing) = Some (codes "P11")
-rule_of (refusal.Mutation at mutation_refusal.BadText) = Some (codes "P11")
-rule_of (refusal.Mutation at mutation_refusal.LengthsDiffer) = Some (codes "P11")
-rule_of (refusal.Mutation at mutation_refusal.NoMemory) = None
-rule_of (refusal.Dangling at to) = Some (codes "P6")
-rule_of (refusal.Cyclic at) = Some (codes "P7")
-rule_of (refusal.Opcode at name) = Some (codes "P5")
-rule_of (refusal.MissingInput at input) = Some (codes "P8")
-rule_of (refusal.Field at field) = Some (codes "P9")
-rule_of (refusal.TooDeep at) = Some (codes "P10")
-rule_of refusal.NoMemory = None
-
 -- a block of a script that is not known, or stands in a wrong place
 
 abbrev pub why_misfit : Option Opcode → List ℕ

@@ -22,7 +22,7 @@ use Rattle.project_spec.specs.Limits.{project_limit}
 use Rattle.report_command.specs.declared.counts.Counts.{Counts}
 use Rattle.report_command.specs.declared.status.Status.{Status}
 use Rattle.report_command.specs.declared.status.Status.TheVariants.{Done, Usage, ReadFault, WriteFault, BadProject, TooLarge, NoMemory}
-use Rattle.report_command.specs.Advice.{rule_of}
+use Rattle.project_spec.specs.RuleNames.{project_rule}
 use Rattle.report_command.specs.Verdict.{Verdict, accepted, refused, IsVerdict, verdict_text}
 
 -- the course of a status: all is written of a project that loads, and of one that is refused
@@ -71,7 +71,7 @@ IsFetched (said v) = Unit {0}
 
 -- want of memory stands in no other status
 abbrev pub HoldsNoWant : Status → Type 0
-HoldsNoWant (BadProject r) = IsSome (rule_of r)
+HoldsNoWant (BadProject r) = IsSome (project_rule r)
 HoldsNoWant status = Unit {0}
 
 -- every other status of words that have the form tells the ending; a write fault comes of a file that was fetched, and

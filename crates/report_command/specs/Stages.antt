@@ -3,12 +3,12 @@ use Rattle.std.specs.Prelude.{◌≡◌, ℕ, List, Option, None, Some, IfSome, 
 use Rattle.sv_channels.specs.declared.errors.FetchError.{FetchError}
 use Rattle.sv_channels.specs.declared.errors.FetchError.TheVariants as fetch
 use Rattle.project_spec.specs.declared.refusals.Refusal.{Refusal}
-use Rattle.report_command.specs.Advice.{rule_of}
+use Rattle.project_spec.specs.RuleNames.{project_rule}
 use Rattle.report_command.specs.Verdict.{Verdict, IsVerdict, IsCounted, verdict_text, refusal_in}
 use Rattle.project_spec.specs.Refusals.{IsRefusal}
-use Rattle.report_command.specs.declared.judging.Loaded.{Loaded}
-use Rattle.report_command.specs.declared.judging.Loaded.TheVariants.{Accepted, Refused}
-use Rattle.report_command.specs.declared.judging.Judged.{Judged}
+use Rattle.report_command.specs.declared.judgement.Loaded.{Loaded}
+use Rattle.report_command.specs.declared.judgement.Loaded.TheVariants.{Accepted, Refused}
+use Rattle.report_command.specs.declared.judgement.Judged.{Judged}
 use Rattle.report_command.specs.declared.status.Status.{Status}
 use Rattle.report_command.specs.declared.status.Status.TheVariants.{Done, ReadFault, WriteFault, BadProject, TooLarge, NoMemory}
 
@@ -24,7 +24,7 @@ pub record IsJudged (bytes : List ℕ) (j : Judged) : Type 0 where
   pub is : IsVerdict bytes verdict
   pub text : j.text.items ≡ verdict_text verdict
   pub refusal : j.refusal ≡ refusal_in verdict
-  pub rule : IfSome j.refusal (λ r. IsSome (rule_of r))
+  pub rule : IfSome j.refusal (λ r. IsSome (project_rule r))
 
 -- how a write of a judgement ends
 abbrev pub ToldOf : Option Refusal → Status → Type 0
@@ -37,4 +37,4 @@ ToldOf refusal status = ⊥
 -- a file was loaded, and its project counted
 abbrev pub IsLoaded : List ℕ → Loaded → Type 0
 IsLoaded bytes (Accepted c) = IsCounted bytes c
-IsLoaded bytes (Refused r) = IsRefusal bytes r × IsSome (rule_of r)
+IsLoaded bytes (Refused r) = IsRefusal bytes r × IsSome (project_rule r)

@@ -8,7 +8,8 @@ use Rattle.project_spec.specs.declared.refusals.At.{At}
 use Rattle.project_spec.specs.declared.refusals.Refusal.{Refusal}
 use Rattle.project_spec.specs.declared.refusals.Refusal.TheVariants as refusal
 use Rattle.report_command.specs.declared.counts.Counts.{Counts}
-use Rattle.report_command.specs.Advice.{rule_of, why, change}
+use Rattle.project_spec.specs.RuleNames.{project_rule}
+use Rattle.report_command.specs.Advice.{why, change}
 use Rattle.report_command.specs.Lines.{line}
 use Rattle.report_command.specs.Places.{target_at, kind_of, name_of, block_at, id_of, opcode_of}
 
@@ -53,7 +54,7 @@ place document (refusal.TooDeep at) = opcode_place document at
 place document refusal.NoMemory = []
 
 abbrev pub rule_line : Refusal → List ℕ
-rule_line r = line (codes "The project does not load, by rule ") (unwrap_or (rule_of r) [])
+rule_line r = line (codes "The project does not load, by rule ") (unwrap_or (project_rule r) [])
 
 abbrev pub place_line : Option Tree → Refusal → List ℕ
 place_line document r = line (codes "Where: ") (place document r)

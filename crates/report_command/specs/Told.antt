@@ -2,7 +2,7 @@
 use Rattle.std.specs.Prelude.{ℕ, List, ◌++◌, codes, Option, None, Some}
 use Rattle.report_command.specs.declared.status.Status.{Status}
 use Rattle.report_command.specs.declared.status.Status.TheVariants.{Done, Usage, ReadFault, WriteFault, BadProject, TooLarge, NoMemory}
-use Rattle.report_command.specs.Advice.{rule_of}
+use Rattle.project_spec.specs.RuleNames.{project_rule}
 
 abbrev pub text_of_rule : Option (List ℕ) → List ℕ
 text_of_rule None = codes "NoMemory"
@@ -14,7 +14,7 @@ text_of_status Done = codes "Done"
 text_of_status Usage = codes "Usage"
 text_of_status ReadFault = codes "ReadFault"
 text_of_status WriteFault = codes "WriteFault"
-text_of_status (BadProject r) = text_of_rule (rule_of r)
+text_of_status (BadProject r) = text_of_rule (project_rule r)
 text_of_status (TooLarge limit) = codes "TooLarge"
 text_of_status NoMemory = codes "NoMemory"
 
@@ -27,6 +27,6 @@ exit_of_status Done = 0
 exit_of_status Usage = 1
 exit_of_status ReadFault = 2
 exit_of_status WriteFault = 3
-exit_of_status (BadProject r) = exit_of_rule (rule_of r)
+exit_of_status (BadProject r) = exit_of_rule (project_rule r)
 exit_of_status (TooLarge limit) = 8
 exit_of_status NoMemory = 9

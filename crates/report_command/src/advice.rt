@@ -2,39 +2,14 @@
 
 ghost use Rattle.std.specs.Prelude.{◌≡◌, option_map};
 ghost use Rattle.opcode_table.specs.Table.{of_name};
-ghost use Rattle.report_command.specs.Advice.{rule_of, why, why_misfit, change, change_misfit};
+ghost use Rattle.project_spec.specs.RuleNames.{project_rule};
+ghost use Rattle.report_command.specs.Advice.{why, why_misfit, change, change_misfit};
 
 use opcode_table::of_name;
 use project_json::JsonRefusal;
 use project_spec::{MutationRefusal, Refusal};
 
-/// The rule that is broken, or `None` where memory ran out. docs/refusals.md has an example of each rule.
-pub(crate) fn rule_of(refusal: &Refusal) -> Option<&'static str>
-    ensures { option_map (λ rule. rule.now) result ≡ rule_of refusal.now }
-{
-    match refusal {
-        Refusal::Json(JsonRefusal::NoMemory) => None,
-        Refusal::Json(JsonRefusal::NotUtf8 { .. }) => Some("P1"),
-        Refusal::Json(JsonRefusal::Syntax { .. }) => Some("P1"),
-        Refusal::Json(JsonRefusal::TooDeep { .. }) => Some("P1"),
-        Refusal::Shape { .. } => Some("P2"),
-        Refusal::StageCount { .. } => Some("P3"),
-        Refusal::TooMany { .. } => Some("P4"),
-        Refusal::Mutation(_, MutationRefusal::NoMemory) => None,
-        Refusal::Mutation(_, MutationRefusal::Missing) => Some("P11"),
-        Refusal::Mutation(_, MutationRefusal::BadText) => Some("P11"),
-        Refusal::Mutation(_, MutationRefusal::LengthsDiffer) => Some("P11"),
-        Refusal::Dangling { .. } => Some("P6"),
-        Refusal::Cyclic { .. } => Some("P7"),
-        Refusal::Opcode { .. } => Some("P5"),
-        Refusal::MissingInput { .. } => Some("P8"),
-        Refusal::Field { .. } => Some("P9"),
-        Refusal::TooDeep { .. } => Some("P10"),
-        Refusal::NoMemory => None,
-    }
-}
-
-// The same of a block that does not fit its place.
+// Why a block that does not fit its place is refused.
 fn why_misfit(name: &str) -> &'static str
     ensures { result.now ≡ why_misfit (of_name name.now) }
 {

@@ -3,12 +3,12 @@
 #![tactic(auto)]
 
 mod advice;
-mod counting;
+mod block_names;
 mod counts;
-mod judging;
-mod naming;
+mod judgement;
 mod pieces;
 mod places;
+mod project_counts;
 mod status;
 mod text;
 mod top;

@@ -4,7 +4,6 @@ ghost use Rattle.std.specs.Prelude.{◌≡◌, ◌++◌};
 ghost use Rattle.report_command.specs.Stages.{unfetched};
 ghost use Rattle.report_command.specs.Told.{text_of_status, exit_of_status};
 
-use crate::advice::rule_of;
 use project_spec::Refusal;
 use sv_channels::FetchError;
 
@@ -48,7 +47,7 @@ pub fn told(status: &Status) -> (&'static str, &'static str)
         Status::Usage => ("Usage", ""),
         Status::ReadFault => ("ReadFault", ""),
         Status::WriteFault => ("WriteFault", ""),
-        Status::BadProject(refusal) => match rule_of(refusal) {
+        Status::BadProject(refusal) => match refusal.rule() {
             Some(rule) => ("BadProject ", rule),
             None => ("NoMemory", ""),
         },
@@ -66,7 +65,7 @@ pub fn exit_number(status: &Status) -> u8
         Status::Usage => 1,
         Status::ReadFault => 2,
         Status::WriteFault => 3,
-        Status::BadProject(refusal) => match rule_of(refusal) {
+        Status::BadProject(refusal) => match refusal.rule() {
             Some(_) => 4,
             None => 9,
         },

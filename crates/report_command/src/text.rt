@@ -5,11 +5,11 @@ ghost use Rattle.std.specs.Option.{option_map};
 ghost use Rattle.std.specs.Fmt.{decimal};
 ghost use Rattle.project_json.specs.View.{tree};
 ghost use Rattle.machine_spec.specs.FrameText.{quoted};
-ghost use Rattle.report_command.specs.Advice.{rule_of};
+ghost use Rattle.project_spec.specs.RuleNames.{project_rule};
 ghost use Rattle.report_command.specs.Lines.{line};
 ghost use Rattle.report_command.specs.Text.{accepted_text, block_place, opcode_place, place, rule_line, place_line, advice_lines, refusal_text};
 
-use crate::advice::{change, rule_of, why};
+use crate::advice::{change, project_rule, why};
 use crate::counts::Counts;
 use crate::pieces::{push_natural, push_text};
 use crate::places::{block_at, id_of, kind_of, name_of, opcode_of, target_at};
@@ -157,9 +157,9 @@ fn push_place(
 
 // The number of the rule that is broken.
 fn rule_name(refusal: &Refusal) -> &'static str
-    ensures { result.now ≡ unwrap_or (rule_of refusal.now) [] }
+    ensures { result.now ≡ unwrap_or (project_rule refusal.now) [] }
 {
-    match rule_of(refusal) {
+    match refusal.rule() {
         Some(rule) => rule,
         None => "",
     }

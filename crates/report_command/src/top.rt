@@ -7,14 +7,13 @@ ghost use Rattle.report_command.specs.Naming.{name_of};
 ghost use Rattle.report_command.specs.Promise.{course, Owes, Reports, WantWroteNothing};
 ghost use Rattle.report_command.specs.Stages.{ToldOf};
 
-use crate::judging::{Judged, judge};
-use crate::naming::name_of;
+use crate::block_names::name_of;
+use crate::judgement::{Judged, judge};
 use crate::status::Status;
 use call_outcomes::{fetch, write_text};
+use project_spec::PROJECT_LIMIT;
 use std::alloc::Global;
 use sv_channels::{Shelf, Sink, SinkError};
-
-const PROJECT_LIMIT: u64 = 33_554_432;
 
 // Writes what is said of a file.
 fn tell<K: Sink>(alloc: Global, judged: Judged, out: &mut K) -> Status

@@ -14,7 +14,7 @@ ghost use Rattle.report_command.specs.UnknownStages.{IsTable, AddsUnknown, IsSma
 
 use crate::pieces::{push_natural, push_text};
 use crate::places::targets_in;
-use block_checks::in_scripts;
+use block_checks::{in_scripts, is_menu};
 use block_table::{BlockRefusal, BlockTable, build};
 use project_json::{Json, Text, Texts, member};
 use project_spec::{Block, Code};
@@ -23,16 +23,6 @@ use std::alloc::{AllocError, Global};
 
 /// At most so many names are told.
 const MOST_TOLD: usize = 100;
-
-// Whether the block is a menu.
-fn is_menu(block: &Block) -> bool
-    ensures { result ≡ is_menu block.now }
-{
-    match &block.code {
-        Code::Known(_) => false,
-        Code::Other(_) => block.shadow && block.fields.len() == 1 && block.inputs.is_empty(),
-    }
-}
 
 // Appends the opcode of a block, where the block is not known.
 fn push_name(names: &mut Texts, block: &Block) -> Result<(), AllocError>

@@ -7,9 +7,9 @@ mod instances;
 mod keys;
 mod list_items;
 mod properties;
-mod reporting;
+mod reporter_rows;
 mod rows;
 mod sight;
 
-pub use reporting::reported;
+pub use reporter_rows::reported;
 pub use sight::{Sight, contents, variable};

@@ -3,16 +3,14 @@
 //! since the programs above have it in common.
 #![tactic(auto)]
 
-mod loading;
-mod saving;
+mod loader;
+mod saver;
 mod spelling;
 mod status;
-mod telling;
 mod threads;
+mod told_run;
 
-pub use loading::load;
+pub use loader::load;
 pub use saved_text::SaveStop;
-pub use saving::save;
-pub use status::{
-    Limit, Status, Which, exit_number, refusal_name, save_refusal_name, status_text, told,
-};
+pub use saver::save;
+pub use status::{Detail, Limit, Status, Which, exit_number, status_text, told};

@@ -1,12 +1,11 @@
 //! How a call of a player ends.
 
 ghost use Rattle.std.specs.Prelude.{◌≡◌, IfOk, string_bytes, option_map};
-ghost use Rattle.run_save.specs.Statuses.{told_text, text_of_refusal, text_of_save_refusal, text_of_line, text_of_status, exit_of_line, exit_of_status};
+ghost use Rattle.run_save.specs.Statuses.{told_text, text_of_rule, text_of_line, text_of_status, exit_of_line, exit_of_status};
 
 use itoa::Buffer;
 use machine_spec::LineRefusal;
-use project_json::JsonRefusal;
-use project_spec::{MutationRefusal, Refusal};
+use project_spec::Refusal;
 use saved_spec::SaveRefusal;
 use script_words::CounterKind;
 use std::alloc::{AllocError, Global};
@@ -58,93 +57,74 @@ pub enum Status {
     NoMemory,
 }
 
-/// The name that tells why a project is refused, with the number of the refusal, or `None` where memory ran out. The
-/// numbers P1 to P11 are those of docs/refusals.md.
-pub fn refusal_name(refusal: &Refusal) -> Option<&'static str>
-    ensures { option_map (λ name. name.now) result ≡ text_of_refusal refusal.now }
-{
-    match refusal {
-        Refusal::Json(JsonRefusal::NoMemory) => None,
-        Refusal::Json(JsonRefusal::NotUtf8 { .. }) => Some("BadProject P1"),
-        Refusal::Json(JsonRefusal::Syntax { .. }) => Some("BadProject P1"),
-        Refusal::Json(JsonRefusal::TooDeep { .. }) => Some("BadProject P1"),
-        Refusal::Shape { .. } => Some("BadProject P2"),
-        Refusal::StageCount { .. } => Some("BadProject P3"),
-        Refusal::TooMany { .. } => Some("BadProject P4"),
-        Refusal::Mutation(_, MutationRefusal::NoMemory) => None,
-        Refusal::Mutation(_, MutationRefusal::Missing) => Some("BadProject P11"),
-        Refusal::Mutation(_, MutationRefusal::BadText) => Some("BadProject P11"),
-        Refusal::Mutation(_, MutationRefusal::LengthsDiffer) => Some("BadProject P11"),
-        Refusal::Dangling { .. } => Some("BadProject P6"),
-        Refusal::Cyclic { .. } => Some("BadProject P7"),
-        Refusal::Opcode { .. } => Some("BadProject P5"),
-        Refusal::MissingInput { .. } => Some("BadProject P8"),
-        Refusal::Field { .. } => Some("BadProject P9"),
-        Refusal::TooDeep { .. } => Some("BadProject P10"),
-        Refusal::NoMemory => None,
-    }
-}
-
-/// The name that tells why a saved run is refused, with the number of the refusal, or `None` where memory ran out. The numbers
-/// S1 to S7 are those of docs/refusals.md.
-pub fn save_refusal_name(refusal: &SaveRefusal) -> Option<&'static str>
-    ensures { option_map (λ name. name.now) result ≡ text_of_save_refusal refusal.now }
-{
-    match refusal {
-        SaveRefusal::Json => Some("BadSave S1"),
-        SaveRefusal::Shape { .. } => Some("BadSave S2"),
-        SaveRefusal::Version { .. } => Some("BadSave S3"),
-        SaveRefusal::OtherProject { .. } => Some("BadSave S4"),
-        SaveRefusal::BadReference { .. } => Some("BadSave S5"),
-        SaveRefusal::BadThread { .. } => Some("BadSave S6"),
-        SaveRefusal::Spelling { .. } => Some("BadSave S7"),
-        SaveRefusal::NoMemory => None,
-    }
+/// What stands behind the name of a status.
+#[derive(Clone, Copy, Debug, PartialEq, Eq)]
+pub enum Detail {
+    /// Nothing.
+    Nothing,
+    /// The rule that a project or a saved run breaks.
+    Rule(&'static str),
+    /// The number of a line of the script, from 1.
+    Line(u64),
 }
 
 // What tells a refused line: the name with the number of the refusal and a space, before the line's number.
-fn told_line(refusal: &LineRefusal) -> (&'static str, Option<u64>)
-    ensures { told_text result.0.now result.1 ≡ text_of_line refusal.now }
+fn told_line(refusal: &LineRefusal) -> (&'static str, Detail)
+    ensures { told_text result.0.now result.1.now ≡ text_of_line refusal.now }
 {
     match refusal {
-        LineRefusal::NotUtf8 { line } => ("BadScript 1 ", Some(*line)),
-        LineRefusal::UnknownLine { line } => ("BadScript 2 ", Some(*line)),
-        LineRefusal::BadNumber { line } => ("BadScript 3 ", Some(*line)),
-        LineRefusal::OutOfRange { line } => ("BadScript 4 ", Some(*line)),
-        LineRefusal::ClockBack { line, .. } => ("BadScript 5 ", Some(*line)),
-        LineRefusal::NoMemory => ("NoMemory", None),
+        LineRefusal::NotUtf8 { line } => ("BadScript 1 ", Detail::Line(*line)),
+        LineRefusal::UnknownLine { line } => ("BadScript 2 ", Detail::Line(*line)),
+        LineRefusal::BadNumber { line } => ("BadScript 3 ", Detail::Line(*line)),
+        LineRefusal::OutOfRange { line } => ("BadScript 4 ", Detail::Line(*line)),
+        LineRefusal::ClockBack { line, .. } => ("BadScript 5 ", Detail::Line(*line)),
+        LineRefusal::NoMemory => ("NoMemory", Detail::Nothing),
     }
 }
 
-/// What tells a status: its name, after a refused project or saved run with the number of the refusal, and after a refused line with
-/// the number of the refusal and a space, before the line's number.
-pub fn told(status: &Status) -> (&'static str, Option<u64>)
-    ensures { told_text result.0.now result.1 ≡ text_of_status status.now }
+// What tells a refused project or saved run: the name of the status, before the rule.
+fn told_rule(name: &'static str, rule: Option<&'static str>) -> (&'static str, Detail)
+    ensures { told_text result.0.now result.1.now ≡ text_of_rule name.now (option_map (λ rule. rule.now) rule) }
+{
+    match rule {
+        Some(rule) => (name, Detail::Rule(rule)),
+        None => ("NoMemory", Detail::Nothing),
+    }
+}
+
+/// What tells a status: its name, after a refused project or saved run the rule that is broken, and after a refused line, whose
+/// name has the number of the refusal, the number of the line.
+pub fn told(status: &Status) -> (&'static str, Detail)
+    ensures { told_text result.0.now result.1.now ≡ text_of_status status.now }
 {
     match status {
-        Status::Done => ("Done", None),
-        Status::Usage => ("Usage", None),
-        Status::ReadFault => ("ReadFault", None),
-        Status::WriteFault => ("WriteFault", None),
-        Status::BadProject(refusal) => (refusal_name(refusal).unwrap_or("NoMemory"), None),
-        Status::BadSave(refusal) => (save_refusal_name(refusal).unwrap_or("NoMemory"), None),
+        Status::Done => ("Done", Detail::Nothing),
+        Status::Usage => ("Usage", Detail::Nothing),
+        Status::ReadFault => ("ReadFault", Detail::Nothing),
+        Status::WriteFault => ("WriteFault", Detail::Nothing),
+        Status::BadProject(refusal) => told_rule("BadProject ", refusal.rule()),
+        Status::BadSave(refusal) => told_rule("BadSave ", refusal.rule()),
         Status::BadScript(refusal) => told_line(refusal),
-        Status::Limit(_) => ("Limit", None),
-        Status::TooLarge { .. } => ("TooLarge", None),
-        Status::NoMemory => ("NoMemory", None),
+        Status::Limit(_) => ("Limit", Detail::Nothing),
+        Status::TooLarge { .. } => ("TooLarge", Detail::Nothing),
+        Status::NoMemory => ("NoMemory", Detail::Nothing),
     }
 }
 
-/// The text that tells a status: its name, after a refused project or saved run the number of the refusal, and
+/// The text that tells a status: its name, after a refused project or saved run the rule that is broken, and
 /// after a refused line the number of the refusal and the line.
 pub fn status_text(alloc: Global, status: &Status) -> Result<String, AllocError>
     ensures { IfOk result (λ text. string_bytes text ≡ text_of_status status.now) }
 {
-    let (name, line) = told(status);
+    let (name, detail) = told(status);
     let mut text = String::from_str(alloc, name)?;
-    match line {
-        None => Ok(text),
-        Some(line) => {
+    match detail {
+        Detail::Nothing => Ok(text),
+        Detail::Rule(rule) => {
+            text.push_str(rule)?;
+            Ok(text)
+        }
+        Detail::Line(line) => {
             let mut buffer = Buffer::new();
             text.push_str(buffer.format(line))?;
             Ok(text)
@@ -171,12 +151,12 @@ pub fn exit_number(status: &Status) -> u8
         Status::Usage => 1,
         Status::ReadFault => 2,
         Status::WriteFault => 3,
-        Status::BadProject(refusal) => match refusal_name(refusal) {
+        Status::BadProject(refusal) => match refusal.rule() {
             Some(_) => 4,
             None => 9,
         },
         Status::BadScript(refusal) => line_number(refusal),
-        Status::BadSave(refusal) => match save_refusal_name(refusal) {
+        Status::BadSave(refusal) => match refusal.rule() {
             Some(_) => 6,
             None => 9,
         },

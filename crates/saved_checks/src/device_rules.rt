@@ -2,20 +2,20 @@
 
 ghost use Rattle.std.specs.Prelude.{◌≡◌, ◌&&◌, length, nat_le, unsigned_abs, IfOk};
 ghost use Rattle.std.specs.List.{list_all};
+ghost use Rattle.machine_spec.specs.ScriptText.{last_clock};
 ghost use Rattle.project_check.specs.Loaded.{basis_of};
 ghost use Rattle.project_spec.specs.Basis.{records_of};
 ghost use Rattle.saved_spec.specs.Rules as rules;
 
-use crate::counting::is_next;
 use crate::distinct::texts_differ;
+use crate::given_numbers::is_next;
 use crate::keys::is_key_name;
 use crate::project_parts::targets;
+use machine_spec::LAST_CLOCK;
 use project_check::Project;
 use project_json::Text;
 use saved_parts::{ToldMouse, ToldNext, ToldRun};
 use std::alloc::{AllocError, Global};
-
-const LATEST: u64 = 9_000_000_000_000;
 
 const MOST_X: u64 = 240;
 
@@ -23,9 +23,9 @@ const MOST_Y: u64 = 180;
 
 // Whether the clock is at most 9,000,000,000,000 milliseconds.
 pub(crate) fn is_in_time(run: &ToldRun) -> bool
-    ensures { result ≡ nat_le run.now.clock 9000000000000 }
+    ensures { result ≡ nat_le run.now.clock last_clock }
 {
-    run.clock <= LATEST
+    run.clock <= LAST_CLOCK
 }
 
 // Whether the timer was reset no later than the clock.

@@ -8,20 +8,20 @@ ghost use Rattle.saved_spec.specs.Rules.{differ};
 ghost use Rattle.saved_checks.specs.Groups as group;
 ghost use Rattle.saved_checks.specs.Groups.{broken_in};
 
-use crate::broken::first_broken;
-use crate::counting::{are_few, have_few_levels, is_next, timers_were_updated, were_updated};
 use crate::device_rules::{are_held, are_next, is_in_time, is_on_stage, was_reset};
+use crate::given_numbers::{are_few, have_few_levels, is_next, timers_were_updated, were_updated};
 use crate::lengths::{ask_briefly, have_little_to_say, have_short_lists, is_value_text};
 use crate::levels::{have_given, have_short_params};
 use crate::live_targets::LiveTargets;
 use crate::monitors::are_shown;
-use crate::naming::{are_questions, are_timers};
 use crate::originals::are_there;
-use crate::project_parts::{monitors, targets};
-use crate::ranges::{are_directed, are_due, are_sized, have_effects};
-use crate::standing::{
+use crate::placement::{
     are_in_place, have_costumes, have_edges, have_numbers, have_values, stage_is_first,
 };
+use crate::project_parts::{monitors, targets};
+use crate::ranges::{are_directed, are_due, are_sized, have_effects};
+use crate::referents::{are_questions, are_timers};
+use crate::rule_order::first_broken;
 use crate::thread_places::{have_blocks, have_hats};
 use project_check::Project;
 use saved_parts::ToldRun;

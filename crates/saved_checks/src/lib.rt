@@ -1,11 +1,10 @@
 //! The rules on the parts of a saved run (docs/formats.md, section 5), tested on what its text tells.
 #![tactic(auto)]
 
-mod broken;
 mod checking;
-mod counting;
 mod device_rules;
 mod distinct;
+mod given_numbers;
 mod groups;
 mod hat_blocks;
 mod keys;
@@ -13,11 +12,12 @@ mod lengths;
 mod levels;
 mod live_targets;
 mod monitors;
-mod naming;
 mod originals;
+mod placement;
 mod project_parts;
 mod ranges;
-mod standing;
+mod referents;
+mod rule_order;
 mod thread_places;
 
 pub use checking::broken_rule;

@@ -4,7 +4,7 @@ ghost use Rattle.std.specs.Prelude.{◌≡◌, ◌<◌, ◌+◌, ◌-◌, ◌^�
 ghost use Rattle.std.specs.List.{list_all, range_with_len};
 ghost use Rattle.saved_checks.specs.Originals.{AreCounted, HasRoom, is_original_of, originals_of};
 
-use crate::counting::is_original;
+use crate::given_numbers::is_original;
 use saved_parts::ToldInstance;
 use std::alloc::{AllocError, Global};
 

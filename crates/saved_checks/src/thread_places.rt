@@ -11,8 +11,8 @@ ghost use Rattle.saved_checks.specs.Live.{target_in};
 
 use crate::levels::are_in;
 use crate::live_targets::LiveTargets;
-use crate::naming::{is_named, threads_differ};
 use crate::project_parts::{blocks, is_hat};
+use crate::referents::{is_named, threads_differ};
 use project_check::Project;
 use saved_parts::ToldThread;
 use std::alloc::{AllocError, Global};

@@ -27,7 +27,7 @@ use Rattle.saved_spec.specs.RunShapes.{Told}
 use Rattle.saved_spec.specs.ThreadRules.{is_asked, is_spoken, items_fit, status_fits, promises_fit, stands_well}
 use Rattle.saved_spec.proofs.Standing.{reads}
 use Rattle.saved_levels.specs.declared.floors.Site.{Site}
-use Rattle.saved_levels.specs.declared.waiting.Waiting.{Waiting}
+use Rattle.saved_levels.specs.declared.waiting_threads.Waiting.{Waiting}
 use Rattle.saved_levels.specs.Making.{keeps_asked, keeps_spoken, keeps_started, keeps_nothing, status_by, stands_by}
 use Rattle.saved_levels.specs.Read.{task_with, IsMade, IsRead}
 use Rattle.saved_levels.specs.Standing.{fitting_first, sheet_of, program_in, hat_of, whole_of, Wholes, is_well, IsPlaced, Places}

@@ -16,7 +16,7 @@ use Rattle.thread_frames.specs.declared.level.Level.{Level}
 use Rattle.saved_spec.specs.Kept.{Kept, Nothing, Loop, Repeat, Wait, Glide, Started, Asked, Spoken, Call, SavedLevel}
 use Rattle.saved_spec.specs.Rules.{is_short, values_kept}
 use Rattle.saved_spec.specs.ThreadRules.{loops_with, may_keep, is_choice, has_names}
-use Rattle.saved_levels.specs.declared.waiting.Waiting.{Waiting}
+use Rattle.saved_levels.specs.declared.waiting_threads.Waiting.{Waiting}
 use Rattle.saved_levels.specs.Waits.{has_asked, has_spoken}
 
 -- the loop mark, the context and the parameters of a level that keeps this

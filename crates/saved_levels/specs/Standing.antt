@@ -21,7 +21,7 @@ use Rattle.saved_spec.specs.Levels.{script_among, level_on, marker_on, top_item,
 use Rattle.saved_spec.specs.ThreadRules.{marker_fits, items_fit, stands_well}
 use Rattle.saved_levels.specs.declared.floors.Floor.{Floor}
 use Rattle.saved_levels.specs.declared.floors.Site.{Site}
-use Rattle.saved_levels.specs.declared.waiting.Waiting.{Waiting}
+use Rattle.saved_levels.specs.declared.waiting_threads.Waiting.{Waiting}
 use Rattle.saved_levels.specs.Found.{IsFound, room_scripts}
 use Rattle.saved_levels.specs.Making.{called_at}
 use Rattle.saved_levels.specs.Waits.{TellsOf}

@@ -6,7 +6,7 @@ use Rattle.std.specs.Ordering.{nat_cmp}
 use Rattle.machine_spec.specs.declared.devices.Question.{Question}
 use Rattle.machine_spec.specs.declared.devices.BubbleTimer.{BubbleTimer}
 use Rattle.machine_spec.specs.Stores.{Devices}
-use Rattle.saved_levels.specs.declared.waiting.Waiting.{Waiting}
+use Rattle.saved_levels.specs.declared.waiting_threads.Waiting.{Waiting}
 
 -- a question names the thread
 abbrev pub has_asked : Waiting → ℕ → Bool

@@ -5,12 +5,12 @@
 mod calls;
 mod chains;
 mod floors;
-mod keeping;
-mod making;
-mod naming;
-mod reading;
-mod stacking;
-mod waiting;
+mod kept_contexts;
+mod level_parts;
+mod parameter_names;
+mod reader;
+mod stacks;
+mod waiting_threads;
 
-pub use reading::levels_of;
-pub use waiting::Waiting;
+pub use reader::levels_of;
+pub use waiting_threads::Waiting;

@@ -13,13 +13,10 @@ ghost use Rattle.saved_reading.specs.Words.{count_words, status_words};
 
 use crate::parts::{Shaped, found, items, member, part, row, sized, table};
 use json_shapes::{Fault, Place};
-use machine_spec::{Count, GlideState, Status, WaitState};
+use machine_spec::{Count, GlideState, MOST_TURNS, Status, WaitState};
 use saved_parts::{ToldKept, ToldLevel, ToldParam, ToldThread};
 use serde_json::Value;
 use std::alloc::Global;
-
-// The most turns that a loop can have left.
-const MOST_TURNS: u64 = 9_000_000_000_000;
 
 fn count_named(word: &str) -> Option<Count>
     ensures { result ≡ item_named word.now count_words }

@@ -19,4 +19,5 @@ pub mod Levels
 pub mod Worlds
 pub mod Legal
 pub mod Refusals
+pub mod RuleNames
 pub mod Laws

@@ -1,6 +1,6 @@
 -- The rules on what a saved run says of itself and of its project (docs/formats.md, section 5), each a test of what its
 -- text tells. What each thread has still to do has rules of its own, in ThreadRules.antt.
-use Rattle.std.specs.Prelude.{ℕ, ◌^◌, ◌==◌, nat_le, nat_lt, ℤ, pos, negsuc, int_le, unsigned_abs, List, [], ◌∷◌, length, map, filter, find, sum_by, slice_get, bytes_eq, codes, Bool, true, false, not, ◌&&◌, ◌||◌, Option, is_some, option_map}
+use Rattle.std.specs.Prelude.{ℕ, ◌+◌, ◌==◌, nat_le, nat_lt, ℤ, pos, negsuc, int_le, unsigned_abs, List, [], ◌∷◌, length, map, filter, find, sum_by, slice_get, bytes_eq, codes, Bool, true, false, not, ◌&&◌, ◌||◌, Option, is_some, option_map}
 use Rattle.std.specs.List.{list_any, list_all, range_with_len}
 use Rattle.std.specs.Option.{option_map_or}
 use Rattle.std.specs.Fmt.{char_count}
@@ -16,9 +16,11 @@ use Rattle.machine_spec.specs.declared.variables.Shown.{Shown}
 use Rattle.machine_spec.specs.declared.variables.Store.{Store}
 use Rattle.machine_spec.specs.Effects.{effect_place}
 use Rattle.machine_spec.specs.Line.{key_name}
-use Rattle.machine_spec.specs.Outcome.{most_levels}
+use Rattle.machine_spec.specs.DataRows.{most_items}
+use Rattle.machine_spec.specs.Outcome.{last_number, most_levels}
 use Rattle.machine_spec.specs.Program.{record_at}
-use Rattle.machine_spec.specs.ScriptText.{key_of_rest}
+use Rattle.machine_spec.specs.ScriptText.{key_of_rest, last_clock}
+use Rattle.machine_spec.specs.Stopping.{most_clones}
 use Rattle.machine_spec.specs.Stores.{is_original, live, instance_at, record_of, is_on_stage, store_at}
 use Rattle.machine_spec.specs.declared.variables.Shown.TheVariants.{Variable, List as Items}
 use Rattle.project_spec.specs.Basis.{Basis, records_of, blocks_of, is_hat, is_edge}
@@ -44,7 +46,7 @@ is_between low high n = false
 
 -- the numbers that are given next stay below this
 abbrev pub last_next : ℕ
-last_next = 2 ^ 62
+last_next = 1 + last_number
 
 abbrev pub is_next : ℕ → Bool
 is_next n = nat_lt n last_next
@@ -53,7 +55,7 @@ is_next n = nat_lt n last_next
 
 -- the clock is at most 9·10^12 milliseconds
 abbrev pub clock_is_in_range : Told → Bool
-clock_is_in_range t = nat_le t.run.devices.clock 9000000000000
+clock_is_in_range t = nat_le t.run.devices.clock last_clock
 
 -- the timer was reset no later than the clock
 abbrev pub timer_was_reset : Told → Bool
@@ -123,7 +125,7 @@ clones_are_sprites b t = list_all (λ i. is_original i && nat_lt i.of (length (r
 
 -- at most 300 clones
 abbrev pub clones_are_few : Told → Bool
-clones_are_few t = nat_le (length (filter (λ i. not (is_original i)) t.run.targets)) 300
+clones_are_few t = nat_le (length (filter (λ i. not (is_original i)) t.run.targets)) most_clones
 
 -- every instance has one of its target's costumes
 abbrev pub costumes_are_there : Basis → Told → Bool
@@ -165,7 +167,7 @@ variables_are_there b t = list_all (has_values b t) t.run.targets
 
 -- a list has at most 200,000 items
 abbrev pub lists_are_short : Told → Bool
-lists_are_short t = list_all (λ s. list_all (λ items. nat_le (length items) 200000) s.lists) t.run.variables.stores
+lists_are_short t = list_all (λ s. list_all (λ items. nat_le (length items) most_items) s.lists) t.run.variables.stores
 
 -- Texts: one that is a value has at most 1 MiB, that of a bubble at most 330 characters
 

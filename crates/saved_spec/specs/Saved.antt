@@ -75,5 +75,5 @@ unfoldable pub saved_text : {T : Type 0} → (f : T → Data) → Snapshot T →
 saved_text f s = compact_text (saved f s)
 
 -- the most bytes of a saved run: 128 MiB
-abbrev pub longest : ℕ
-longest = 128 * 2 ^ 20
+abbrev pub saved_limit : ℕ
+saved_limit = 128 * 2 ^ 20

@@ -38,6 +38,27 @@ pub enum SaveRefusal {
     NoMemory,
 }
 
+impl SaveRefusal {
+    ghost use Rattle.std.specs.Prelude.{◌≡◌, option_map};
+    ghost use Rattle.saved_spec.specs.RuleNames.{saved_rule};
+
+    /// The name of the rule that is broken, `S1` to `S7`, or `None` where memory ran out. docs/refusals.md tells the rules.
+    pub fn rule(&self) -> Option<&'static str>
+        ensures { option_map (λ rule. rule.now) result ≡ saved_rule self.now }
+    {
+        match self {
+            SaveRefusal::Json => Some("S1"),
+            SaveRefusal::Shape { .. } => Some("S2"),
+            SaveRefusal::Version { .. } => Some("S3"),
+            SaveRefusal::OtherProject { .. } => Some("S4"),
+            SaveRefusal::BadReference { .. } => Some("S5"),
+            SaveRefusal::BadThread { .. } => Some("S6"),
+            SaveRefusal::Spelling { .. } => Some("S7"),
+            SaveRefusal::NoMemory => None,
+        }
+    }
+}
+
 impl From<AllocError> for SaveRefusal {
     ghost from_gives = { λ _ e. e ≡ NoMemory };
 

@@ -20,7 +20,7 @@ use Rattle.saved_spec.specs.RunShapes.{Told, stores_in_order}
 use Rattle.saved_spec.specs.Rules.{Rule, rules, broken, differ, is_next, is_shown, is_value_text, has_short_texts, mouse_is_on_stage, next_are_counted, made_monitors_show, clones_are_sprites, costumes_are_there, lists_are_short, answer_is_short, instances_say_little, questions_are_short, edges_are_hats}
 use Rattle.saved_stores.specs.Held.{AreDevices, AreHeld, is_of}
 use Rattle.saved_stores.specs.Stores.{parts_of, KeepRules}
-use Rattle.saved_stores.specs.declared.told.ToldStores.{ToldStores}
+use Rattle.saved_stores.specs.declared.told_parts.ToldStores.{ToldStores}
 use Rattle.saved_stores.proofs.Distinct.{all_order, distinct_order}
 use Rattle.saved_stores.proofs.Fitting.{IsBounded, held_all}
 use Rattle.saved_stores.proofs.Comparing.{both, below, at_most}

@@ -8,8 +8,8 @@ use Rattle.saved_parts.specs.declared.run.ToldMade.{ToldMade}
 use Rattle.saved_parts.specs.Telling.{shown_of, store_of}
 use Rattle.project_spec.specs.Basis.{Basis}
 use Rattle.saved_spec.specs.Rules.{has_short_texts, is_shown, is_value_text}
-use Rattle.saved_stores.specs.declared.told.ToldDevices.{ToldDevices}
-use Rattle.saved_stores.specs.declared.told.ToldStores.{ToldStores}
+use Rattle.saved_stores.specs.declared.told_parts.ToldDevices.{ToldDevices}
+use Rattle.saved_stores.specs.declared.told_parts.ToldStores.{ToldStores}
 use Rattle.saved_stores.specs.Stores.{variables_in}
 
 -- the number of a block, with what was recorded for it, is one that a block can have

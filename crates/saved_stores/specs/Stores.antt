@@ -8,8 +8,8 @@ use Rattle.saved_parts.specs.Telling.{instance_of, store_of, made_of, question_o
 use Rattle.project_spec.specs.Basis.{Basis}
 use Rattle.saved_spec.specs.RunShapes.{stores_in_order}
 use Rattle.saved_spec.specs.Rules.{broken}
-use Rattle.saved_stores.specs.declared.told.ToldDevices.{ToldDevices}
-use Rattle.saved_stores.specs.declared.told.ToldStores.{ToldStores}
+use Rattle.saved_stores.specs.declared.told_parts.ToldDevices.{ToldDevices}
+use Rattle.saved_stores.specs.declared.told_parts.ToldStores.{ToldStores}
 
 -- the instances in executable order
 abbrev pub targets_in : ToldStores → List Instance

@@ -7,10 +7,10 @@ mod instances;
 mod keys;
 mod order;
 mod questions;
-mod shown;
+mod shown_monitors;
 mod stores;
-mod told;
+mod told_parts;
 mod values;
 
 pub use stores::{RunStores, stores_of};
-pub use told::{ToldDevices, ToldStores};
+pub use told_parts::{ToldDevices, ToldStores};

@@ -1,8 +1,8 @@
 -- What saving answers.
 use Rattle.std.specs.Prelude.{◌≡◌, ℕ, ◌≤◌, ◌<◌, List, length, Result, Ok, Err, Vec}
 use Rattle.std.specs.declared.alloc.Global.{Global}
-use Rattle.saved_text.specs.declared.saving.SaveStop.{SaveStop}
-use Rattle.saved_text.specs.declared.saving.SaveStop.TheVariants.{TooLarge, NoMemory}
+use Rattle.saved_text.specs.declared.saver.SaveStop.{SaveStop}
+use Rattle.saved_text.specs.declared.saver.SaveStop.TheVariants.{TooLarge, NoMemory}
 
 -- this text, where it is no longer than the limit; that it is longer, and its length; or want of memory, which tells nothing
 abbrev pub IsSaved : (limit : ℕ) → (text : List ℕ) → Result (Vec ℕ Global) SaveStop → Type 0

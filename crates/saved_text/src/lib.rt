@@ -11,10 +11,10 @@ mod levels;
 mod monitors;
 mod rows;
 mod run;
-mod saving;
+mod saver;
 mod values;
 mod waits;
 
 pub use laws::{a_saved_run_is_its_world, what_is_left_is_in_range};
 pub use run::SavedRun;
-pub use saving::{LONGEST, SaveStop, save, text_of};
+pub use saver::{SAVED_LIMIT, SaveStop, save, text_of};

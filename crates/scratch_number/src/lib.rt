@@ -5,13 +5,13 @@
 mod angles;
 mod arithmetic;
 mod number;
-mod reading;
+mod number_text;
+mod numerals;
 mod whole;
-mod writing;
 
 pub use angles::{acos, asin, atan, atan2, cos, sin, sqrt, tan};
 pub use arithmetic::{add, div, modulo, mul, sub};
 pub use number::{Num, Raw, is_less, of_millionths, of_whole, order};
-pub use reading::of_text;
+pub use number_text::{NumText, write_text};
+pub use numerals::of_text;
 pub use whole::{abs, ceiling, floor, round};
-pub use writing::{NumText, write_text};

@@ -1,9 +1,9 @@
 -- Values that are lent or owned, and inputs as pairs of a name and a value.
 use Rattle.std.specs.Prelude.{ℕ, List}
 use Rattle.scratch_values.specs.declared.value.Value.{Value}
-use Rattle.scratch_values.specs.declared.held.Held.{Held}
-use Rattle.scratch_values.specs.declared.held.Held.TheVariants.{Lent, Own}
-use Rattle.scratch_values.specs.declared.held.Arg.{Arg}
+use Rattle.scratch_values.specs.declared.argument_values.Held.{Held}
+use Rattle.scratch_values.specs.declared.argument_values.Held.TheVariants.{Lent, Own}
+use Rattle.scratch_values.specs.declared.argument_values.Arg.{Arg}
 
 -- the value
 abbrev pub held : Held → Value

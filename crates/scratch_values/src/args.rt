@@ -6,7 +6,7 @@ ghost use Rattle.scratch_values.specs.Named.{item_named};
 ghost use Rattle.scratch_values.specs.Held.{pair_of};
 ghost use Rattle.scratch_values.specs.Args.{arguments, field_texts, field_variables};
 
-use crate::held::Arg;
+use crate::argument_values::Arg;
 use crate::names::{ResolvedField, VarRef};
 use crate::value::Value;
 use project_json::Text;

@@ -7,7 +7,7 @@ mod lines;
 mod scripts;
 mod stops;
 
-pub use limits::tell_limit;
+pub use limits::{tell_limit, write};
 pub use lines::play_line;
 pub use scripts::play_lines;
 pub use stops::PlayStop;

@@ -16,8 +16,9 @@ use script_words::Stop;
 use std::alloc::{AllocError, Global};
 use sv_channels::{Sink, SinkError};
 
-/// Writes one text by one write.
-pub(crate) fn write<K: Sink>(alloc: Global, text: &[u8], out: &mut K) -> Result<(), PlayStop>
+/// Writes one text by one write. The only errors are `WriteFault`, exactly where the count of failed writes rose, and
+/// `NoMemory`.
+pub fn write<K: Sink>(alloc: Global, text: &[u8], out: &mut K) -> Result<(), PlayStop>
     ensures ends { IsWriteEnd result }
     ensures writes { Writes (sink_now K.written K.faults K.calls out.old)
         (sink_now K.written K.faults K.calls out.new) ⊥ (text.now ∷ []) (course result) }

@@ -1,6 +1,6 @@
 -- What is seen of a source of words that counts them.
 use Rattle.std.specs.Prelude.{ℕ}
-use Rattle.script_words.specs.declared.counting.Counted.{Counted}
+use Rattle.script_words.specs.declared.counter.Counted.{Counted}
 
 -- the source in its present state
 abbrev pub source_of : {R : Type 0} → Counted R → R

@@ -4,11 +4,11 @@
 //! uses: it begins at a seed, behind the words that were drawn before.
 #![tactic(auto)]
 
-mod counting;
-mod seeding;
+mod counter;
+mod seeds;
 mod stops;
 
-pub use counting::{Counted, CounterFull, LAST_NUMBER};
+pub use counter::{Counted, CounterFull, LAST_NUMBER};
 pub use rand_core::Rng;
-pub use seeding::pcg;
+pub use seeds::pcg;
 pub use stops::{CounterKind, Stop};

@@ -4,7 +4,7 @@ ghost use Rattle.std.specs.Prelude.{◌≡◌};
 ghost use Rattle.script_words.specs.declared.stops.CounterKind.TheVariants as kinds;
 ghost use Rattle.script_words.specs.declared.stops.Stop.TheVariants as stops;
 
-use crate::counting::CounterFull;
+use crate::counter::CounterFull;
 use std::alloc::{AllocError, AllocFailed};
 
 /// A counter of a run that has a last value.

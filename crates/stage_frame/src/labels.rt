@@ -5,7 +5,7 @@ ghost use Rattle.std.specs.Option.{option_map};
 ghost use Rattle.machine_spec.specs.FrameText as machine;
 ghost use Rattle.stage_frame.specs.Told.{told_value};
 
-use crate::told::{Told, push_told, push_value};
+use crate::told_values::{Told, push_told, push_value};
 use crate::words::{push_natural, push_quoted};
 use quoted_text::push_inner;
 use scratch_values::Value;

@@ -11,7 +11,7 @@ ghost use Rattle.stage_frame.specs.Seen.{seen_stage};
 use crate::frame::View;
 use crate::labels::push_value_line;
 use crate::names::sprite_name;
-use crate::shown::push_shown;
+use crate::shown_values::push_shown;
 use crate::values::told_of;
 use crate::watches::{Watch, watch_at};
 use machine_spec::{Made, Shown, TargetId};

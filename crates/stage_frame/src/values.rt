@@ -12,7 +12,7 @@ ghost use Rattle.stage_frame.specs.Seen.{seen_stage};
 ghost use Rattle.stage_frame.specs.Told.{told_value};
 
 use crate::frame::View;
-use crate::told::Told;
+use crate::told_values::Told;
 use machine_spec::{Instance, InstanceId, TargetId};
 use project_json::{Json, is_null, member, text_of};
 use scratch_number::{of_whole, round};

@@ -2,11 +2,11 @@
 
 ghost use Rattle.std.specs.Prelude.{◌≡◌, length};
 
-use crate::bounding::bounded_targets;
 use crate::file_targets::FileTargets;
 use crate::monitors::Monitors;
 use crate::records::Records;
 use crate::refusal::RecordRefusal;
+use crate::text_lengths::bounded_targets;
 use std::alloc::Global;
 
 /// What a file tells of its targets and its monitors. Texts may be of any length.

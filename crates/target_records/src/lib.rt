@@ -5,32 +5,32 @@
 //! tests the number of stages and the counts between them.
 #![tactic(auto)]
 
-mod bounding;
 mod costumes;
 mod file_lists;
 mod file_records;
 mod file_targets;
 mod file_variables;
 mod held_targets;
-mod kept;
+mod kept_ranges;
 mod looks;
 mod members;
 mod monitors;
-mod reading;
+mod reader;
 mod records;
 mod refusal;
-mod shown;
+mod shown_monitors;
 mod targets;
+mod text_lengths;
 
 pub use file_records::FileRecords;
 pub use file_targets::FileTargets;
-pub use kept::{costume_index, direction_after, size_kept};
+pub use kept_ranges::{costume_index, direction_after, size_kept};
 pub use machine_spec::{
     InstanceId, ListRecord, ListRecords, Serial, Style, TargetId, TargetRecord, VariableRecord,
     VariableRecords,
 };
 pub use monitors::{MonitorRecord, Monitors, read_monitors};
-pub use reading::read;
+pub use reader::read;
 pub use records::Records;
 pub use refusal::RecordRefusal;
 pub use targets::read_targets;

@@ -8,7 +8,7 @@ ghost use Rattle.json_shapes.specs.Shapes as shape;
 ghost use Rattle.machine_spec.specs.declared.instance.Style.TheVariants.{AllAround};
 ghost use Rattle.target_records.specs.Looks.{look_in};
 
-use crate::kept::{direction_after, size_kept};
+use crate::kept_ranges::{direction_after, size_kept};
 use crate::members::defaulted_num;
 use json_shapes::{Fault, Place, defaulted_truth, present, text};
 use machine_spec::Style;

@@ -12,7 +12,7 @@ use crate::costumes::required_costumes;
 use crate::file_lists::lists;
 use crate::file_targets::{FileTarget, FileTargets};
 use crate::file_variables::variables;
-use crate::kept::costume_index;
+use crate::kept_ranges::costume_index;
 use crate::looks::{defaulted_style, look_of, seen};
 use crate::members::defaulted_num;
 use json_shapes::{Fault, Place, members, required_text, required_truth};

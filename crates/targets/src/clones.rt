@@ -7,11 +7,8 @@ ghost use Rattle.target_records.specs.Records.{records_in};
 ghost use Rattle.targets.specs.Clones.{clones_in, is_of_first};
 ghost use Rattle.machine_spec.specs.declared.instance.Instance.{Instance};
 
-use machine_spec::{Instance, TargetId, TargetRecord};
+use machine_spec::{Instance, MOST_CLONES, TargetId, TargetRecord};
 use target_records::Records;
-
-// The most clones.
-const MOST: usize = 300;
 
 // How many clones there are: an original has the place of its target as its number.
 fn count(instances: &[Instance]) -> usize
@@ -38,7 +35,7 @@ pub(crate) fn is_full(instances: &[Instance], place: usize) -> bool
     requires { place < length instances.now }
     ensures { (d : Instance) → result ≡ (not (nat_lt (clones_in instances.now) most_clones) || is_of_first (slice_index_or instances.now place d) instances.now) }
 {
-    if count(instances) >= MOST {
+    if count(instances) >= MOST_CLONES {
         return true;
     }
     is_of_first(&instances[place], instances)
@@ -58,7 +55,7 @@ pub(crate) fn is_stage(target: TargetId, records: &Records) -> bool
 pub(crate) fn has_room(instances: usize, target: TargetId, records: &Records) -> bool
     ensures { result ≡ not (not (nat_lt instances (length (records_in records.now).targets + most_clones)) || (record_at target (records_in records.now)).is_stage) }
 {
-    if instances >= records.targets() as usize + MOST {
+    if instances >= records.targets() as usize + MOST_CLONES {
         return false;
     }
     !is_stage(target, records)

@@ -5,14 +5,14 @@ mod changes;
 mod clones;
 mod edges;
 mod first;
-mod found;
 mod hints;
 mod layers;
+mod lookup;
 mod order;
 mod state;
 
-pub use found::{costume_of, target_of};
 pub use layers::Place;
+pub use lookup::{costume_of, target_of};
 pub use machine_spec::{
     Bubble, BubbleText, Edges, Effect, Effects, Instance, InstanceId, Say, Style, TargetId,
 };

@@ -2,13 +2,13 @@
 //! (scratch-vm, engine/thread.js and engine/sequencer.js, stepToBranch, stepToProcedure).
 #![tactic(auto)]
 
-mod calling;
-mod linked;
-mod moving;
-mod resuming;
-mod settling;
+mod empty_levels;
+mod level_moves;
+mod links;
+mod procedure_calls;
+mod resumption;
 
-pub use calling::call;
-pub use moving::{enter, go_on, stay, stop_this_script};
-pub use resuming::resume;
-pub use settling::settle;
+pub use empty_levels::settle;
+pub use level_moves::{enter, go_on, stay, stop_this_script};
+pub use procedure_calls::call;
+pub use resumption::resume;

@@ -3,7 +3,7 @@ use Rattle.play_command.specs.Stages.{refused_by}
 use Rattle.play_command.proofs.endings.refused.Goals as goal
 
 pub returns-in-Some : goal.returns-in-Some
-returns-in-Some c = ap (refused_by c.args.refusal) (rw c.in-Some.is at c.refusal_name.ensures)
+returns-in-Some c = ap (refused_by c.args.refusal) (rw c.in-Some.is at c.rule.ensures)
 
 pub returns-in-None : goal.returns-in-None
-returns-in-None c = ap (refused_by c.args.refusal) (rw c.in-None.is at c.refusal_name.ensures)
+returns-in-None c = ap (refused_by c.args.refusal) (rw c.in-None.is at c.rule.ensures)

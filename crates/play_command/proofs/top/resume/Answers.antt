@@ -4,13 +4,13 @@ use Rattle.sha2.specs.Sha256.{sha256}
 use Rattle.call_outcomes.specs.Seen.{shelf_now, sink_now}
 use Rattle.script_words.specs.Words.{answers}
 use Rattle.machine_spec.specs.Output.{played}
-use Rattle.machine_spec.specs.ScriptText.{lines_of}
+use Rattle.machine_spec.specs.ScriptText.{lines_of, script_limit}
 use Rattle.project_check.specs.Loaded.{basis_of}
 use Rattle.saved_spec.specs.Refusals.{IsAccepted, IsRefused}
 use Rattle.sequencer.specs.Runs.{world_of}
 use Rattle.play_command.specs.Command.{ResumeForm, resume}
 use Rattle.project_spec.specs.Limits.{project_limit}
-use Rattle.play_command.specs.Limits.{saved_limit, script_limit}
+use Rattle.saved_spec.specs.Saved.{saved_limit}
 use Rattle.play_command.specs.Outcome.{all_of, text_from}
 use Rattle.play_command.specs.Saving.{EndsAs, IsSavedAs, SavesInRange}
 use Rattle.play_command.specs.Stages.{Completes}

@@ -4,7 +4,7 @@ use Rattle.sha2.specs.Sha256.{sha256}
 use Rattle.call_outcomes.specs.Seen.{shelf_now, sink_now}
 use Rattle.project_check.specs.Loaded.{program_of, basis_of}
 use Rattle.play_command.specs.Command.{Form, play}
-use Rattle.play_command.specs.Limits.{script_limit}
+use Rattle.machine_spec.specs.ScriptText.{script_limit}
 use Rattle.project_spec.specs.Limits.{project_limit}
 use Rattle.play_command.specs.Outcome.{output_of, words_of}
 use Rattle.play_command.specs.Saving.{IsSavedAs}

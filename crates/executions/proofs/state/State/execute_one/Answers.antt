@@ -5,7 +5,7 @@ use Rattle.cached_blocks.specs.declared.block.CachedBlock.{CachedBlock}
 use Rattle.cached_blocks.specs.Cached.{cached_blocks}
 use Rattle.evaluate.specs.Seen.{fields_of}
 use Rattle.project_spec.specs.Trees.{Sheet}
-use Rattle.scratch_values.specs.declared.held.Arg.{Arg}
+use Rattle.scratch_values.specs.declared.argument_values.Arg.{Arg}
 use Rattle.scratch_values.specs.declared.names.ResolvedField.{ResolvedField}
 use Rattle.scratch_values.specs.Args.{arguments}
 use Rattle.scratch_values.specs.Held.{pair_of}

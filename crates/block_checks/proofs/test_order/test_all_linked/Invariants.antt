@@ -1,0 +1,6 @@
+use Rattle.block_checks.specs.Kept.{blocks_in}
+use Rattle.block_checks.specs.Stops.{linked_test, PassesBefore}
+use Rattle.block_checks.proofs.test_order.test_all_linked.Given as goal
+
+abbrev pub invariant-loop-target : goal.invariant-loop-target
+invariant-loop-target l = PassesBefore (blocks_in l.tables) (linked_test l.test) l.target

@@ -1,0 +1,22 @@
+use Rattle.std.proofs.Common.{arith}
+use Rattle.std.proofs.lemmas.List.{length-map}
+use Rattle.block_table.specs.Table.{Numbered}
+use Rattle.block_checks.specs.Kept.{blocks_in}
+use Rattle.block_checks.specs.Stops.{loose_test, StopsAt}
+use Rattle.block_checks.proofs.Orders.{exit, table_held, stops_at, before_more, before_all}
+use Rattle.block_checks.proofs.test_order.test_all_loose.Goals as goal
+
+pub returns-in_err-test_loose-clause-stop : goal.returns-in_err-test_loose-clause-stop
+returns-in_err-test_loose-clause-stop c =
+    let stop = c.in_err-test_loose.field-0.0 in
+    exit c.from_residual.result stop (StopsAt (blocks_in c.args.tables.now) (loose_test c.args.test)) c.from_residual.ensures.1
+    (stops_at (blocks_in c.args.tables.now) (loose_test c.args.test) c.loop-target.target c.index-tables-target.result.blocks stop c.loop-target.invariant (table_held c.args.tables.now c.loop-target.target c.index-tables-target.result c.loop-target-test.true c.index-tables-target.is) c.in_err-test_loose.ensures.stop)
+
+pub loop-target-preserved : goal.loop-target-preserved
+loop-target-preserved c = before_more (blocks_in c.args.tables.now) (loose_test c.args.test) c.loop-target.target c.index-tables-target.result.blocks c.loop-target.invariant (table_held c.args.tables.now c.loop-target.target c.index-tables-target.result c.loop-target-test.true c.index-tables-target.is) c.in_ok-test_loose.ensures.passes
+
+pub returns-clause-passes : goal.returns-clause-passes
+returns-clause-passes c =
+    let n = length-map c.args.tables.now (λ (t : Numbered). t.blocks) in
+    let t = c.loop-target-test.false in
+    before_all (blocks_in c.args.tables.now) (loose_test c.args.test) c.loop-target.target c.loop-target.invariant (omega arith)

@@ -1,4 +1,0 @@
-use Rattle.scratch_number.proofs.writing.+push_fraction.Given as goal
-
-abbrev pub decreases-push_fraction : goal.decreases-push_fraction
-decreases-push_fraction l = l.places
