@@ -23,7 +23,7 @@ use Rattle.executions.specs.Moves.{IsAtBlock, MovesOn, with_levels}
 use Rattle.executions.specs.Nexts.{next_by, next_of}
 use Rattle.executions.specs.Runners.{IsApart, IsMoved, IsRunnerUnless, given_back, given_unless, next_block}
 use Rattle.executions.specs.Seen.{sheets}
-use Rattle.executions.proofs.Placing.{on_is, on_again, put_at, put_put, place_put}
+use Rattle.machine_spec.proofs.Placing.{on_is, on_again, put_at, put_put, place_put}
 
 module _ (r : Runner) (ts : Places Thread) (a : IsApart r ts) where
   -- the thread with its levels

@@ -57,7 +57,7 @@ use Rattle.executions.proofs.Living.{done_living, gone_living}
 use Rattle.executions.proofs.Natural.{ended_seen}
 use Rattle.executions.proofs.People.{none_first_removed, people_cast, people_removed}
 use Rattle.executions.proofs.Crew.{is_live-without}
-use Rattle.executions.proofs.Placing.{put_seen, at_seen, place_seen, everyone_put}
+use Rattle.machine_spec.proofs.Placing.{put_seen, at_seen, place_seen, everyone_put}
 use Rattle.executions.proofs.Sights.{sees, finish_fits}
 use Rattle.executions.proofs.Stops.{stop-then, stop-same}
 use Rattle.executions.proofs.Taking.{holds_by}

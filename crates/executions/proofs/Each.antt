@@ -11,7 +11,7 @@ use Rattle.machine_spec.specs.Script.{op_of}
 use Rattle.machine_spec.specs.declared.threads.Which.TheVariants.{Slot}
 use Rattle.machine_spec.specs.Places.{Places, on_place, Everyone}
 use Rattle.machine_spec.specs.Starting.{Handle, Crowd, Pair, restarts, open_levels, runs_at, replaced, replaced_at, appended, placed, joined, is_of, is_alive_of, new_thread, ignored_or_appended, start_by, start_one, start_all}
-use Rattle.executions.proofs.Placing.{everyone_at, everyone_put}
+use Rattle.machine_spec.proofs.Placing.{everyone_at, everyone_put}
 
 module _ {A : Type 0} where
   pub goes_map : (o : Outcome A) (Q R : A → Type 0) → ((x : A) → Q x → R x) → IfGoes o Q → IfGoes o R

@@ -59,7 +59,7 @@ use Rattle.executions.specs.Moves.{IsAtBlock, Moved, MovesOn, room_for}
 use Rattle.executions.specs.Nexts.{next_by, next_of}
 use Rattle.executions.specs.Rows.{with_tasks, RowGoes, RowStops, Leaves, may_clone, enacts, Enacts, Acts}
 use Rattle.executions.proofs.Keeping.{kept_leaves, kept_here}
-use Rattle.executions.proofs.Placing.{put_at, put_self}
+use Rattle.machine_spec.proofs.Placing.{put_at, put_self}
 use Rattle.executions.proofs.Stops.{stop-then, stop-same}
 use Rattle.executions.proofs.Taking.{without, found, mid_is, at_block, listing}
 use Rattle.executions.proofs.Steps as steps

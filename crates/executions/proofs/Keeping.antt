@@ -18,7 +18,7 @@ use Rattle.executions.specs.Resting.{IsResting, IsIdle}
 use Rattle.executions.specs.Rows.{Leaves}
 use Rattle.executions.proofs.Living.{living_live}
 use Rattle.executions.proofs.People.{people_same}
-use Rattle.executions.proofs.Placing.{everyone_at, everyone_put}
+use Rattle.machine_spec.proofs.Placing.{everyone_at, everyone_put}
 
 -- Threads
 

@@ -16,7 +16,7 @@ use Rattle.thread_moves.specs.Standing.{IsAt, TopHolds, MovesTo}
 use Rattle.project_check.specs.declared.project.Project.{Project}
 use Rattle.executions.specs.Seen.{sheets}
 use Rattle.executions.specs.Moves.{IsAtBlock, MovesOn, with_levels}
-use Rattle.executions.proofs.Placing.{on_is, on_again}
+use Rattle.machine_spec.proofs.Placing.{on_is, on_again}
 
 module _ (p : Project) (which : Which) (target k : ℕ) (old mid : Places Thread) (lent : List Level) (at : IsAtBlock p which old target k)
     (levels_is : lent ≡ levels_of (at_place which old)) (taken : mid ≡ on_place (on_levels (λ ls. [])) which old) where

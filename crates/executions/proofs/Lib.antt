@@ -1,4 +1,3 @@
-pub mod Placing
 pub mod Apart
 pub mod Lent
 pub mod Worlds

@@ -16,7 +16,7 @@ use Rattle.thread_frames.specs.Threads.{Thread, frames, fresh, finish}
 use Rattle.hats.specs.Heads.{IsHeadOf}
 use Rattle.executions.specs.Ready.{IsOfLive}
 use Rattle.executions.proofs.Each.{starts_each}
-use Rattle.executions.proofs.Placing.{everyone_put}
+use Rattle.machine_spec.proofs.Placing.{everyone_put}
 
 -- a fact of every thread that follows from another
 module _ {A : Type 0} (P Q : A → Type 0) (f : (x : A) → P x → Q x) where

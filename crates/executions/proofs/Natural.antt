@@ -18,7 +18,7 @@ use Rattle.machine_spec.specs.declared.threads.Which.TheVariants.{Slot}
 use Rattle.machine_spec.specs.Places.{Places, put, put_some, on_place, sum_some, shown_by, Everyone}
 use Rattle.machine_spec.specs.Starting.{Handle, Crowd, Pair, restarts, open_levels, runs_at, replaced, replaced_at, appended, placed, joined, is_of, is_alive_of, new_thread, ignored_or_appended, start_by, start_one, start_all, is_spared, finished_from, finished_of}
 use Rattle.executions.proofs.Each.{goes_map, start_each}
-use Rattle.executions.proofs.Placing.{put_seen, everyone_put}
+use Rattle.machine_spec.proofs.Placing.{put_seen, everyone_put}
 
 -- the answer, and the threads with their numbers, seen by f
 abbrev pub seen_out : {A B : Type 0} → (A → B) → Outcome A → Outcome B

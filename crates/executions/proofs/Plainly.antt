@@ -36,7 +36,7 @@ use Rattle.executions.specs.Rows.{RowGoes, RowStops, Leaves, Enacts}
 use Rattle.executions.proofs.Chosen.{plain_keeps}
 use Rattle.executions.proofs.Enacting as enacting
 use Rattle.executions.proofs.Enacting.{fresh_at, same_levels}
-use Rattle.executions.proofs.Placing.{on_is, put_self}
+use Rattle.machine_spec.proofs.Placing.{on_is, put_self}
 use Rattle.executions.proofs.Steps as steps
 use Rattle.executions.proofs.Taking.{without}
 

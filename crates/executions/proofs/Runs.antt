@@ -37,7 +37,7 @@ use Rattle.executions.specs.Rows.{RowGoes, RowStops, Leaves, Acts}
 use Rattle.executions.specs.Runners.{IsApart, IsRunner, IsRunnerUnless, IsRunnerAfter, RunsAt, after_runner, given_back, given_unless, next_block, with_runner}
 use Rattle.executions.specs.Seen.{seen, sheets}
 use Rattle.executions.proofs.Apart.{whole, back_is, back_at, back_levels, back_place, back_next}
-use Rattle.executions.proofs.Placing.{on_is, on_again, place_put, put_at, put_put, put_self}
+use Rattle.machine_spec.proofs.Placing.{on_is, on_again, place_put, put_at, put_put, put_self}
 use Rattle.executions.proofs.Taking.{holds_by, put_listed}
 
 -- what is listed of the threads says nothing of levels

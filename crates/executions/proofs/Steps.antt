@@ -45,7 +45,7 @@ use Rattle.executions.specs.Moves.{with_levels, Moved, room_for}
 use Rattle.executions.specs.Rows.{with_tasks, Leaves, enacts, Enacts}
 use Rattle.executions.proofs.Keeping.{kept_leaves}
 use Rattle.executions.proofs.Stops.{stop-then, stop-same}
-use Rattle.executions.proofs.Placing.{running_seen, put_at, put_put}
+use Rattle.machine_spec.proofs.Placing.{running_seen, put_at, put_put}
 use Rattle.executions.proofs.Worlds.{moved_is, after}
 use Rattle.executions.proofs.Counted.{open_seen}
 use Rattle.executions.proofs.Firsts.{first_executes, params_seen}

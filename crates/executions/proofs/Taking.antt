@@ -20,7 +20,7 @@ use Rattle.executions.specs.declared.state.State.{State}
 use Rattle.executions.specs.Seen.{sheets, seen_threads}
 use Rattle.executions.specs.Ready.{IsReady}
 use Rattle.executions.specs.Moves.{IsAtBlock}
-use Rattle.executions.proofs.Placing.{on_is, put_at}
+use Rattle.machine_spec.proofs.Placing.{on_is, put_at}
 
 -- the top level of levels that are ready
 pub holds_by : (sheet : Sheet) (levels : List Level) (k : ℕ) → IsReadyAt sheet levels → top_block levels ≡ Some k → TopHolds sheet levels k

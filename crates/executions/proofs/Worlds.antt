@@ -22,7 +22,7 @@ use Rattle.executions.specs.Seen.{sheets, seen_threads, seen}
 use Rattle.executions.specs.Ready.{IsKept, IsReadyUnless, IsAfter}
 use Rattle.executions.specs.Moves.{with_levels}
 use Rattle.executions.proofs.Keeping.{kept_put}
-use Rattle.executions.proofs.Placing.{running_put, on_running_seen}
+use Rattle.machine_spec.proofs.Placing.{running_put, on_running_seen}
 
 -- a report leaves a thread done where it has ended
 ended_done : (r : Report) → is_done (status_after r) ≡ is_ended r

@@ -24,7 +24,7 @@ use Rattle.thread_moves.specs.Resuming.{IsResumed}
 use Rattle.executions.specs.declared.state.State.{State}
 use Rattle.executions.specs.Seen.{sheets, seen, seen_threads}
 use Rattle.executions.specs.Ready.{AllFit}
-use Rattle.executions.proofs.Placing.{on_is, on_again, put_seen, everyone_at, everyone_put}
+use Rattle.machine_spec.proofs.Placing.{on_is, on_again, put_seen, everyone_at, everyone_put}
 use Rattle.executions.specs.Resting.{IsIdle}
 use Rattle.executions.proofs.Keeping.{kept_put}
 use Rattle.frames.specs.Resuming.{running_with, IsResumedAt}

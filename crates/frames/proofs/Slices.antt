@@ -19,7 +19,7 @@ use Rattle.executions.specs.declared.runner.Runner.{Runner}
 use Rattle.executions.specs.Ready.{IsKept}
 use Rattle.executions.specs.Runners.{IsRunner, IsRunnerUnless, IsRunnerAfter, after_runner, given_back, given_unless, with_runner}
 use Rattle.executions.proofs.Apart.{back_levels, back_place}
-use Rattle.executions.proofs.Placing.{running_seen}
+use Rattle.machine_spec.proofs.Placing.{running_seen}
 use Rattle.executions.proofs.Stops.{stop-then, stop-same}
 
 -- the flag of the running thread is that of its levels

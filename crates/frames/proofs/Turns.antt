@@ -24,7 +24,7 @@ use Rattle.executions.specs.declared.state.State.{State}
 use Rattle.executions.specs.Moves.{with_levels}
 use Rattle.executions.specs.Ready.{IsKept, IsReady}
 use Rattle.executions.specs.Seen.{sheets, seen}
-use Rattle.executions.proofs.Placing.{on_is, everyone_at, running_seen}
+use Rattle.machine_spec.proofs.Placing.{on_is, everyone_at, running_seen}
 use Rattle.executions.proofs.Worlds.{moved_is, after}
 use Rattle.frames.specs.Turns.{CanTurn}
 

@@ -22,7 +22,7 @@ use Rattle.executions.specs.declared.state.State.{State}
 use Rattle.executions.specs.Ready.{IsOfLive, IsKept}
 use Rattle.executions.specs.Seen.{sheets, seen, seen_threads}
 use Rattle.executions.proofs.Keeping.{kept_put, kept_threads}
-use Rattle.executions.proofs.Placing.{put_at, put_seen, at_seen, on_is, everyone_at, running_seen}
+use Rattle.machine_spec.proofs.Placing.{put_at, put_seen, at_seen, on_is, everyone_at, running_seen}
 use Rattle.executions.proofs.Stops.{stop-then, stop-same}
 use Rattle.executions.specs.Resting.{IsResting}
 use Rattle.frames.specs.Turns.{IsAlive, CanTurn, is_active}

@@ -1,3 +1,4 @@
+pub mod Placing
 pub mod Bubbles
 pub mod Settling
 pub mod Rows

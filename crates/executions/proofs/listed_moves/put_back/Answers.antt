@@ -2,7 +2,7 @@
 use Rattle.std.proofs.Common.{ap, ◌∙◌}
 use Rattle.machine_spec.specs.Tasks.{status_after}
 use Rattle.thread_frames.specs.Threads.{on_levels, with_status}
-use Rattle.executions.proofs.Placing.{on_twice}
+use Rattle.machine_spec.proofs.Placing.{on_twice}
 use Rattle.machine_spec.specs.Places.{on_place}
 use Rattle.executions.proofs.listed_moves.put_back.Goals as goal
 
