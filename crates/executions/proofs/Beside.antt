@@ -46,7 +46,7 @@ use Rattle.executions.specs.declared.state.State.{State}
 use Rattle.executions.specs.declared.execution.Next.{Next}
 use Rattle.executions.specs.Seen.{sheets, seen_threads, seen}
 use Rattle.executions.specs.Ready.{ArePeopled, HasNoneFrom, IsOfLive, IsKept, IsReady, IsAfter}
-use Rattle.executions.specs.Moves.{IsAtBlock, Moved, MovesOn, with_levels}
+use Rattle.thread_moves.specs.Moves.{IsAtBlock, Moved, MovesOn, with_levels}
 use Rattle.executions.specs.Nexts.{next_by, next_of}
 use Rattle.executions.specs.Answers.{ActsAs}
 use Rattle.executions.specs.Rows.{Acts}

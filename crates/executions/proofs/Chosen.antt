@@ -29,7 +29,10 @@ use Rattle.project_check.specs.Loaded.{program_of}
 use Rattle.cached_blocks.specs.declared.block.CachedBlock.{CachedBlock}
 use Rattle.executions.specs.declared.state.State.{State}
 use Rattle.executions.specs.Choices.{chosen, KeepsNothing}
-use Rattle.executions.specs.Moves.{room_for}
+use Rattle.thread_frames.specs.Stops.{PushStopIs}
+use Rattle.thread_frames.specs.declared.stops.PushStop.{PushStop}
+use Rattle.thread_frames.specs.declared.stops.PushStop.TheVariants as push
+use Rattle.executions.specs.Room.{room_for, stops_as}
 use Rattle.executions.specs.Rows.{RowGoes, Leaves, with_tasks}
 
 pub plain_keeps : KeepsNothing Plain
@@ -137,16 +140,12 @@ full_as : {A : Type 0} (b : Bool) (x : A) → (if b then Goes x else Full) ≡ F
 full_as true x h = absurd (cc h)
 full_as false x h = refl
 
-no_text : {A : Type 0} (b : Bool) (x : A) (k : ℕ) → (if b then Goes x else Full) ≡ TooLong k → ⊥
-no_text true x k h = cc h
-no_text false x k h = cc h
 
-none_spent : {A : Type 0} (b : Bool) (x : A) (k : CounterKind) → (if b then Goes x else Full) ≡ Spent k → ⊥
-none_spent true x k h = cc h
-none_spent false x k h = cc h
+-- a stop of a level that was not opened is a stop of the run
+pub push_stop : (T U : Type 0) {A : Type 0} (e : PushStop) (s : Stop) (o : Outcome A) → stops_as e s → PushStopIs {T = T} (Err e) o → StopIs {T = U} (Err s) o
+push_stop T U push.Full s o is h = subst (λ x. StopIs {T = U} (Err x) o) (sym is) h
+push_stop T U push.NoMemory s o is h = subst (λ x. StopIs {T = U} (Err x) o) (sym is) tt
 
-pub room_stop : (T : Type 0) {A : Type 0} (stop : Stop) (n : ℕ) (x : A) → StopIs {T = T} (Err stop) (with_room n x) → StopIs {T = T} (Err stop) (room_for true n)
-room_stop T stops.Stack n x h = full_as (nat_lt n most_levels) x h
-room_stop T (stops.Text k) n x h = absurd (no_text (nat_lt n most_levels) x k h)
-room_stop T (stops.Counter k) n x h = absurd (none_spent (nat_lt n most_levels) x k h)
-room_stop T stops.NoMemory n x h = tt
+pub room_stop : (T U : Type 0) {A : Type 0} (e : PushStop) (s : Stop) (n : ℕ) (x : A) → stops_as e s → PushStopIs {T = T} (Err e) (with_room n x) → StopIs {T = U} (Err s) (room_for true n)
+room_stop T U push.Full s n x is h = subst (λ y. StopIs {T = U} (Err y) (room_for true n)) (sym is) (full_as (nat_lt n most_levels) x h)
+room_stop T U push.NoMemory s n x is h = subst (λ y. StopIs {T = U} (Err y) (room_for true n)) (sym is) tt

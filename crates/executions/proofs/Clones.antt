@@ -28,7 +28,7 @@ use Rattle.executions.specs.declared.state.State.{State}
 use Rattle.executions.specs.declared.execution.Next.{Next}
 use Rattle.executions.specs.Seen.{sheets, seen}
 use Rattle.executions.specs.Ready.{ArePeopled, IsKept, IsReady, IsAfter}
-use Rattle.executions.specs.Moves.{IsAtBlock, MovesOn}
+use Rattle.thread_moves.specs.Moves.{IsAtBlock, MovesOn}
 use Rattle.executions.specs.Rows.{Acts}
 use Rattle.executions.proofs.Begun.{crowd, hats_of, begun_runs, begins, begin_stops}
 use Rattle.executions.proofs.Beside.{IsNext, acts, at_block, moves, still_after, r}

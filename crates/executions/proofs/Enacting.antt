@@ -54,9 +54,12 @@ use Rattle.executions.specs.declared.state.State.{State}
 use Rattle.executions.specs.declared.execution.Next.{Next}
 use Rattle.executions.specs.Seen.{sheets, seen_threads, seen}
 use Rattle.executions.specs.Choices.{KeepsNothing}
-use Rattle.executions.specs.Ready.{IsReady, IsAfter}
-use Rattle.executions.specs.Moves.{IsAtBlock, Moved, MovesOn, room_for}
+use Rattle.executions.specs.Ready.{IsReady}
+use Rattle.thread_moves.specs.Moves.{IsAtBlock, Moved, MovesOn}
+use Rattle.executions.specs.Room.{room_for}
 use Rattle.executions.specs.Nexts.{next_by, next_of}
+use Rattle.executions.specs.declared.runner.Runner.{Runner}
+use Rattle.executions.specs.Runners.{IsWho, IsRunnerAfter, next_block}
 use Rattle.executions.specs.Rows.{with_tasks, RowGoes, RowStops, Leaves, may_clone, enacts, Enacts, Acts}
 use Rattle.executions.proofs.Keeping.{kept_leaves, kept_here}
 use Rattle.machine_spec.proofs.Placing.{put_at, put_self}
@@ -133,6 +136,13 @@ module _ {R : Type 0} (stream : R → Stream) (p : Project) (i : ℕ) (which : W
 
   pub ranked : IsRanked (sheets p ready.thread.target)
   ranked = subst (λ t. IsRanked (sheets p t)) facts.target_is (record { ranks = ranks_at n.target p; falls = ranked_at p n.target; closed = closed_at p n.target })
+
+  who_is : (r : Runner) → next_block r n.id ≡ n → IsWho r ready.thread
+  who_is r same = record {
+    target_is = ap (λ (x : Next). x.target) same ∙ facts.target_is;
+    here_is = ap (λ (x : Next). x.here) same ∙ facts.here_is;
+    serial_is = ap (λ (x : Next). x.serial) same ∙ facts.serial_is;
+  }
 
   -- its instance is live
   pub here_live : IsLive n.here w.targets
@@ -240,8 +250,11 @@ module _ {R : Type 0} (stream : R → Stream) (p : Project) (i : ℕ) (which : W
             (λ e. subst (λ ts. open_levels frames ts < most_levels) left.threads (room e)) same_open
             ∙ ap (λ x. Goes (record { world = seen stream p x; report = report })) (sym last_is))
 
-        pub own_after : IsAfter p i report last
-        own_after = subst (IsAfter p i report) (sym last_is) (steps.own_after stream p i n.id late w ready facts.holds ranked a new control new_context (row_here new control new_context goes) own which at mid (mid_is p i n.id w ready facts.holds which at mid taken) last.threads report moved_here left)
+        -- the runner of the thread is one still, or the thread has ended
+        pub own_runs : (r : Runner) → r.which ≡ which → next_block r n.id ≡ n → IsRunnerAfter p i report r last
+        own_runs r there same =
+            subst (IsRunnerAfter p i report r) (sym last_is)
+            (steps.own_runs stream p i n.id late w ready facts.holds ranked a new control new_context (row_here new control new_context goes) own which at mid (mid_is p i n.id w ready facts.holds which at mid taken) last.threads report moved_here left r (there ∙ at) (who_is r same))
 
     -- a control of others: the block had kept nothing, so that nothing was taken
     module _ (new : State R) (control : Control) (new_context : Context) (goes : RowGoes stream p b a n.here n.serial context (record w { threads = mid }) new_context new control)

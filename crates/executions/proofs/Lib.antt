@@ -1,15 +1,13 @@
-pub mod Apart
-pub mod Lent
 pub mod Worlds
 pub mod Stops
 pub mod Firsts
 pub mod Counted
 pub mod Taking
+pub mod Runs
 pub mod Steps
 pub mod Enacting
 pub mod Chosen
 pub mod Plainly
-pub mod Runs
 pub mod Rowing
 pub mod Each
 pub mod Living

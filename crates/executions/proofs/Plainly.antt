@@ -29,8 +29,10 @@ use Rattle.executions.specs.declared.state.State.{State}
 use Rattle.executions.specs.declared.execution.Next.{Next as Following}
 use Rattle.executions.specs.Choices.{KeepsNothing}
 use Rattle.executions.specs.Seen.{sheets, seen}
-use Rattle.executions.specs.Ready.{IsReady, IsAfter}
-use Rattle.executions.specs.Moves.{IsAtBlock, MovesOn}
+use Rattle.executions.specs.Ready.{IsReady}
+use Rattle.executions.specs.declared.runner.Runner.{Runner}
+use Rattle.executions.specs.Runners.{IsRunnerAfter, next_block}
+use Rattle.thread_moves.specs.Moves.{IsAtBlock, MovesOn}
 use Rattle.executions.specs.Nexts.{next_of}
 use Rattle.executions.specs.Rows.{RowGoes, RowStops, Leaves, Enacts}
 use Rattle.executions.proofs.Chosen.{plain_keeps}
@@ -83,7 +85,7 @@ module _ {R : Type 0} (stream : R → Stream) (p : Project) (i : ℕ) (which : W
   found_here = ap (λ z. at_place z w.threads) at ∙ ready.found
 
   -- so that nothing would be taken out
-  nothing_taken : w.threads ≡ on_place (on_levels (on_top (with_context Fresh))) which w.threads
+  pub nothing_taken : w.threads ≡ on_place (on_levels (on_top (with_context Fresh))) which w.threads
   nothing_taken =
       let thread_is : without ready.thread ≡ ready.thread = ap (λ ls. record ready.thread { levels = ls }) (same_levels ready.thread.levels fresh) in
       sym (on_is (on_levels (on_top (with_context Fresh))) which w.threads (on_place (on_levels (on_top (with_context Fresh))) which w.threads) ready.thread found_here refl
@@ -103,5 +105,5 @@ module _ {R : Type 0} (stream : R → Stream) (p : Project) (i : ℕ) (which : W
     pub goes_on : Enacts stream p i n.id late a w (λ o. o ≡ Goes (record { world = seen stream p last; report = report }))
     goes_on = enacting.own_goes stream p i which n late a w ready at next w.threads Fresh keeps_nothing nothing_taken b cached new Next Fresh (goes n.serial Fresh) refl left last report moves last_is (λ e. absurd (cc e))
 
-    pub goes_after : IsAfter p i report last
-    goes_after = enacting.own_after stream p i which n late a w ready at next w.threads Fresh keeps_nothing nothing_taken b cached new Next Fresh (goes n.serial Fresh) refl left last report moves last_is
+    pub goes_after : (r : Runner) → r.which ≡ which → next_block r n.id ≡ n → IsRunnerAfter p i report r last
+    goes_after = enacting.own_runs stream p i which n late a w ready at next w.threads Fresh keeps_nothing nothing_taken b cached new Next Fresh (goes n.serial Fresh) refl left last report moves last_is

@@ -20,7 +20,7 @@ use Rattle.machine_spec.specs.declared.threads.Which.{Which}
 use Rattle.machine_spec.specs.Laws.{is_own}
 use Rattle.machine_spec.specs.Keeping.{is_called, top_fits}
 use Rattle.machine_spec.specs.Pending.{Item, Position, dos}
-use Rattle.machine_spec.specs.Places.{Places, at_place, put, place}
+use Rattle.machine_spec.specs.Places.{Places, at_place, put, place, running}
 use Rattle.machine_spec.specs.Evaluate.{evaluated}
 use Rattle.machine_spec.specs.Step.{Moment, position, opens_level, moved, moved_with_room, act, view_of, row, execute, execute_first, step_by, step}
 use Rattle.machine_spec.specs.Tasks.{Task, levels}
@@ -39,13 +39,17 @@ use Rattle.thread_moves.specs.Ranked.{IsRanked}
 use Rattle.thread_moves.specs.Standing.{IsAt, TopHolds}
 use Rattle.thread_moves.proofs.Items.{at_block as items_at_block}
 use Rattle.executions.specs.declared.state.State.{State}
+use Rattle.executions.specs.declared.runner.Runner.{Runner}
+use Rattle.executions.specs.Runners.{IsWho, IsRunnerAfter}
 use Rattle.executions.specs.Seen.{sheets, seen_threads, seen}
 use Rattle.executions.specs.Ready.{IsReady, IsAfter}
-use Rattle.executions.specs.Moves.{with_levels, Moved, room_for}
+use Rattle.thread_moves.specs.Moves.{with_levels, Moved}
+use Rattle.executions.specs.Room.{room_for}
 use Rattle.executions.specs.Rows.{with_tasks, Leaves, enacts, Enacts}
 use Rattle.executions.proofs.Keeping.{kept_leaves}
+use Rattle.executions.proofs.Runs.{runner_after}
 use Rattle.executions.proofs.Stops.{stop-then, stop-same}
-use Rattle.machine_spec.proofs.Placing.{running_seen, put_at, put_put}
+use Rattle.machine_spec.proofs.Placing.{running_seen, running_put, place_put, put_at, put_put}
 use Rattle.executions.proofs.Worlds.{moved_is, after}
 use Rattle.executions.proofs.Counted.{open_seen}
 use Rattle.executions.proofs.Firsts.{first_executes, params_seen}
@@ -204,3 +208,10 @@ module _ {R : Type 0} (stream : R → Stream) (p : Project) (i k : ℕ) (late : 
         pub own_after : IsAfter p i report last
         own_after = after p ready.thread (position (program_of p) late t.warp s r control context) m.levels report stands_is i acting ts ready.found ts_is ready.alive
             (kept_leaves p w acting ready.kept (record { threads = refl; next_thread = left.next_thread; next_instance = left.next_instance; targets = left.targets; one_each = left.one_each; free = left.free }))
+
+        -- the runner of the thread is one still, or the thread has ended
+        pub own_runs : (x : Runner) → x.which ≡ place i w.threads → IsWho x ready.thread → IsRunnerAfter p i report x last
+        own_runs x there who =
+            runner_after p i x last (there ∙ sym (ap (place i) ts_is ∙ place_put i w.threads (with_levels m.levels report ready.thread))) (with_levels m.levels report ready.thread)
+            (ap (running i) ts_is ∙ running_put i w.threads ready.thread (with_levels m.levels report ready.thread) ready.found)
+            (record { target_is = who.target_is; here_is = who.here_is; serial_is = who.serial_is }) report own_after

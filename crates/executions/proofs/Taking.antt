@@ -19,7 +19,7 @@ use Rattle.thread_moves.proofs.Items.{block_at_is}
 use Rattle.executions.specs.declared.state.State.{State}
 use Rattle.executions.specs.Seen.{sheets, seen_threads}
 use Rattle.executions.specs.Ready.{IsReady}
-use Rattle.executions.specs.Moves.{IsAtBlock}
+use Rattle.thread_moves.specs.Moves.{IsAtBlock}
 use Rattle.machine_spec.proofs.Placing.{on_is, put_at}
 
 -- the top level of levels that are ready

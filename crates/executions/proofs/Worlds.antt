@@ -20,7 +20,7 @@ use Rattle.thread_moves.specs.Standing.{IsAt, is_ended, IsReadyUnless as LevelsR
 use Rattle.executions.specs.declared.state.State.{State}
 use Rattle.executions.specs.Seen.{sheets, seen_threads, seen}
 use Rattle.executions.specs.Ready.{IsKept, IsReadyUnless, IsAfter}
-use Rattle.executions.specs.Moves.{with_levels}
+use Rattle.thread_moves.specs.Moves.{with_levels}
 use Rattle.executions.proofs.Keeping.{kept_put}
 use Rattle.machine_spec.proofs.Placing.{running_put, on_running_seen}
 

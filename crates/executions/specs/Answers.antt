@@ -17,7 +17,7 @@ use Rattle.executions.specs.declared.state.State.{State}
 use Rattle.executions.specs.Choices.{chosen}
 use Rattle.executions.specs.Ready.{IsAfter}
 use Rattle.executions.specs.Rows.{Acts, Enacts}
-use Rattle.executions.specs.Runners.{IsRunnerAfter, after_runner}
+use Rattle.executions.specs.Runners.{IsRunnerAfter}
 use Rattle.executions.specs.Seen.{seen}
 
 -- a fact of one execution by the machine
@@ -31,11 +31,11 @@ Chooses stream p i k late op control s P = (a : Arguments) → chosen op a ≡ S
 -- The machine's outcome, of which `told` tells each fact, is what the run answers: the world that is seen and the report, or
 -- the stop. Then the runner is about to execute a block, or its thread has ended.
 pub record Answers {R : Type 0} (stream : R → Stream) (p : Project) (i : ℕ) (told : (Outcome (Moment (World Task)) → Type 0) → Type 0) (result : Result Report Stop) (new : Runner) (last : State R) : Type 0 where
-  pub ok : IfOk result (λ report. told (λ o. o ≡ Goes (record { world = seen stream p (after_runner report new last); report = report })))
+  pub ok : IfOk result (λ report. told (λ o. o ≡ Goes (record { world = seen stream p last; report = report })))
   pub after : IfOk result (λ report. IsRunnerAfter p i report new last)
   pub stop : told (StopIs result)
 
--- The same of a control that acts on others: the levels of the running thread, whose top level held block k, are in the list.
+-- The same of a control that acts on others; the top level of the running thread held block k.
 pub record ActsAs {R : Type 0} (stream : R → Stream) (p : Project) (i k : ℕ) (late : Bool) (control : Control) (old : State R) (result : Result Report Stop) (new : State R) : Type 0 where
   pub ok : IfOk result (λ report. Acts stream p i k late control old (λ o. o ≡ Goes (record { world = seen stream p new; report = report })))
   pub after : IfOk result (λ report. IsAfter p i report new)

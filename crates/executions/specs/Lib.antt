@@ -1,7 +1,7 @@
 pub mod Seen
 pub mod Blocks
 pub mod Ready
-pub mod Moves
+pub mod Room
 pub mod Rows
 pub mod Nexts
 pub mod Resting

@@ -16,13 +16,13 @@ ghost use Rattle.executions.specs.Ready.{IsReady, IsKept};
 ghost use Rattle.executions.specs.Seen.{seen};
 
 use crate::execution::Next;
-use crate::listed_moves::go_on;
 use crate::state::State;
 use hats::start;
 use machine_spec::{Filter, InstanceId, Report};
 use project_check::Project;
 use script_words::{CounterKind, LAST_NUMBER, Rng, Stop};
 use std::alloc::{AllocError, Global};
+use thread_moves::go_on;
 
 impl<R: Rng + Drop> State<R> {
     // Whether no number of an instance is left.

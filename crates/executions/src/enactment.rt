@@ -15,12 +15,11 @@ ghost use Rattle.executions.specs.Answers.{Answers, Chooses};
 ghost use Rattle.executions.specs.Blocks.{HasKind, IsBlock};
 ghost use Rattle.executions.specs.Choices.{IsChosen, chosen};
 ghost use Rattle.executions.specs.Rows.{Acts, Enacts};
-ghost use Rattle.executions.specs.Runners.{RunsAt, with_runner};
+ghost use Rattle.executions.specs.Runners.{RunsAt};
 
 use crate::choices::{Choice, way_chosen, way_chosen_by};
-use crate::own_controls::is_own;
-use crate::runner::{Runner, give_back};
-use crate::runner_moves::{enter, go_on};
+use crate::own_controls::{is_own, stop_of};
+use crate::runner::Runner;
 use crate::state::State;
 use cached_blocks::CachedBlock;
 use machine_spec::{BlockId, Context, Control, Report};
@@ -29,6 +28,7 @@ use project_check::Project;
 use scratch_values::{Arg, Args};
 use script_words::{Rng, Stop};
 use std::alloc::Global;
+use thread_moves::{enter, go_on};
 
 // Whether the thread has ended that reports this.
 fn is_ended(report: Report) -> bool
@@ -44,19 +44,22 @@ impl<R: Rng + Drop> State<R> {
         &mut self,
         project: &Project,
         slot: u64,
-        runner: &mut Runner,
+        runner: &Runner,
         id: BlockId,
         block: &CachedBlock,
         args: &Args<'_>,
         late: bool,
     ) -> Result<Report, Stop>
-        requires at { RunsAt project.now slot runner.old self.old id }
-        requires block { IsBlock project.now runner.old.target id block.now }
+        requires at { RunsAt project.now slot runner.now self.old id }
+        requires block { IsBlock project.now runner.now.target id block.now }
         requires group { group block.now.op ≡ group_of.Data }
-        ensures { Answers R.stream project.now slot (Enacts R.stream project.now slot id late args.entry.now (with_runner runner.old self.old)) result runner.new self.new }
+        ensures { Answers R.stream project.now slot (Enacts R.stream project.now slot id late args.entry.now self.old) result runner.now self.new }
     {
         match self.apply_data(project, block, args, runner.here) {
-            Ok(()) => Ok(go_on(project, &mut self.threads, runner, id)),
+            Ok(()) => {
+                let threads = &mut self.threads;
+                Ok(go_on(project, threads, runner.which, runner.target, id))
+            }
             Err(stop) => Err(stop),
         }
     }
@@ -67,19 +70,22 @@ impl<R: Rng + Drop> State<R> {
         &mut self,
         project: &Project,
         slot: u64,
-        runner: &mut Runner,
+        runner: &Runner,
         id: BlockId,
         block: &CachedBlock,
         first: Arg<'_>,
         late: bool,
     ) -> Result<Report, Stop>
-        requires at { RunsAt project.now slot runner.old self.old id }
-        requires block { IsBlock project.now runner.old.target id block.now }
+        requires at { RunsAt project.now slot runner.now self.old id }
+        requires block { IsBlock project.now runner.now.target id block.now }
         requires group { group block.now.op ≡ group_of.Data }
-        ensures { Answers R.stream project.now slot (Enacts R.stream project.now slot id late (arguments (pair_of first.entry ∷ []) block.now.fields) (with_runner runner.old self.old)) result runner.new self.new }
+        ensures { Answers R.stream project.now slot (Enacts R.stream project.now slot id late (arguments (pair_of first.entry ∷ []) block.now.fields) self.old) result runner.now self.new }
     {
         match self.apply_data_one(project, block, first, runner.here) {
-            Ok(()) => Ok(go_on(project, &mut self.threads, runner, id)),
+            Ok(()) => {
+                let threads = &mut self.threads;
+                Ok(go_on(project, threads, runner.which, runner.target, id))
+            }
             Err(stop) => Err(stop),
         }
     }
@@ -90,28 +96,33 @@ impl<R: Rng + Drop> State<R> {
         &mut self,
         project: &Project,
         slot: u64,
-        runner: &mut Runner,
+        runner: &Runner,
         id: BlockId,
         block: &CachedBlock,
         number: u8,
         is_loop: bool,
         late: bool,
     ) -> Result<Report, Stop>
-        requires at { RunsAt project.now slot runner.old self.old id }
-        requires block { IsBlock project.now runner.old.target id block.now }
+        requires at { RunsAt project.now slot runner.now self.old id }
+        requires block { IsBlock project.now runner.now.target id block.now }
         requires chosen { IsChosen block.now.op (Branch number is_loop) }
-        ensures { Answers R.stream project.now slot (Chooses R.stream project.now slot id late block.now.op (Branch number is_loop) (with_runner runner.old self.old)) result runner.new self.new }
+        ensures { Answers R.stream project.now slot (Chooses R.stream project.now slot id late block.now.op (Branch number is_loop) self.old) result runner.now self.new }
     {
         let threads = &mut self.threads;
-        enter(
+        let (which, target) = (runner.which, runner.target);
+        match enter(
             project,
             threads,
-            runner,
+            which,
+            target,
             id,
             number,
             is_loop,
             Context::Fresh,
-        )
+        ) {
+            Ok(report) => Ok(report),
+            Err(stop) => Err(stop_of(stop)),
+        }
     }
 
     // The runner goes on behind its block, which chose no branch.
@@ -120,20 +131,22 @@ impl<R: Rng + Drop> State<R> {
         &mut self,
         project: &Project,
         slot: u64,
-        runner: &mut Runner,
+        runner: &Runner,
         id: BlockId,
         block: &CachedBlock,
         late: bool,
     ) -> Report
-        requires at { RunsAt project.now slot runner.old self.old id }
-        requires block { IsBlock project.now runner.old.target id block.now }
+        requires at { RunsAt project.now slot runner.now self.old id }
+        requires block { IsBlock project.now runner.now.target id block.now }
         requires chosen { IsChosen block.now.op Passes }
-        ensures { Answers R.stream project.now slot (Chooses R.stream project.now slot id late block.now.op Passes (with_runner runner.old self.old)) (Ok result) runner.new self.new }
+        ensures { Answers R.stream project.now slot (Chooses R.stream project.now slot id late block.now.op Passes self.old) (Ok result) runner.now self.new }
     {
-        go_on(project, &mut self.threads, runner, id)
+        let threads = &mut self.threads;
+        go_on(project, threads, runner.which, runner.target, id)
     }
 
-    // What a control does that is not of the runner alone, whose block keeps nothing: its levels are given back before.
+    // What a control does that is not of the runner alone, whose block keeps nothing. A thread that has not ended may stand in
+    // another place then.
     fn act_apart(
         &mut self,
         alloc: Global,
@@ -148,15 +161,13 @@ impl<R: Rng + Drop> State<R> {
         requires own { laws.is_own control ≡ false }
         requires clones { (original : ℕ) → control ≡ Clone original → IsLive original self.old.targets }
         requires fits { HasKind project.now runner.old.target id (λ k. control_fits control k Fresh) }
-        ensures { Answers R.stream project.now slot (Acts R.stream project.now slot id late control (with_runner runner.old self.old)) result runner.new self.new }
+        ensures { Answers R.stream project.now slot (Acts R.stream project.now slot id late control self.old) result runner.new self.new }
     {
-        let which = runner.which;
         let next = runner.next(id);
-        give_back(alloc, &mut self.threads, runner);
-        match self.act_on_others(alloc, project, slot, which, next, control, late) {
+        match self.act_on_others(alloc, project, slot, runner.which, next, control, late) {
             Ok(report) => {
                 if !is_ended(report) {
-                    *runner = self.take_runner(project, slot);
+                    *runner = self.runner(project, slot);
                 }
                 Ok(report)
             }
@@ -178,11 +189,11 @@ impl<R: Rng + Drop> State<R> {
     ) -> Result<Report, Stop>
         requires at { RunsAt project.now slot runner.old self.old id }
         requires block { IsBlock project.now runner.old.target id block.now }
-        ensures { Answers R.stream project.now slot (Enacts R.stream project.now slot id late args.entry.now (with_runner runner.old self.old)) result runner.new self.new }
+        ensures { Answers R.stream project.now slot (Enacts R.stream project.now slot id late args.entry.now self.old) result runner.new self.new }
     {
         let here = runner.here;
         let serial = runner.serial;
-        let context = runner.levels.take_context();
+        let context = self.threads.take_context(runner.which);
         match self.apply(alloc, project, block, args, here, serial, context) {
             Ok((control, context)) => {
                 if is_own(&control) {
@@ -208,7 +219,7 @@ impl<R: Rng + Drop> State<R> {
         late: bool,
     ) -> Result<Report, Stop>
         requires { RunsAt project.now slot runner.old self.old id }
-        ensures { Answers R.stream project.now slot (Enacts R.stream project.now slot id late args.entry.now (with_runner runner.old self.old)) result runner.new self.new }
+        ensures { Answers R.stream project.now slot (Enacts R.stream project.now slot id late args.entry.now self.old) result runner.new self.new }
     {
         let block = project.cached(runner.target, id);
         if matches!(group(block.op), Group::Data) {
@@ -238,7 +249,7 @@ impl<R: Rng + Drop> State<R> {
     ) -> Result<Report, Stop>
         requires at { RunsAt project.now slot runner.old self.old id }
         requires block { IsBlock project.now runner.old.target id block.now }
-        ensures { Answers R.stream project.now slot (Enacts R.stream project.now slot id late (arguments (pair_of first.entry ∷ []) block.now.fields) (with_runner runner.old self.old)) result runner.new self.new }
+        ensures { Answers R.stream project.now slot (Enacts R.stream project.now slot id late (arguments (pair_of first.entry ∷ []) block.now.fields) self.old) result runner.new self.new }
     {
         match way_chosen_by(block.op, &first) {
             Some(Choice::Enter { number, is_loop }) => {
@@ -263,7 +274,7 @@ impl<R: Rng + Drop> State<R> {
         late: bool,
     ) -> Result<Report, Stop>
         requires { RunsAt project.now slot runner.old self.old id }
-        ensures { Answers R.stream project.now slot (Enacts R.stream project.now slot id late (arguments (pair_of first.entry ∷ []) block.now.fields) (with_runner runner.old self.old)) result runner.new self.new }
+        ensures { Answers R.stream project.now slot (Enacts R.stream project.now slot id late (arguments (pair_of first.entry ∷ []) block.now.fields) self.old) result runner.new self.new }
     {
         let args = Args::one(block.fields.as_slice(), first);
         self.enact(alloc, project, slot, runner, id, &args, late)

@@ -7,7 +7,7 @@ ghost use Rattle.machine_spec.specs.Step as machine;
 ghost use Rattle.project_check.specs.Loaded.{program_of};
 ghost use Rattle.executions.specs.Answers.{Answers, Steps};
 ghost use Rattle.executions.specs.Blocks.{IsBlock};
-ghost use Rattle.executions.specs.Runners.{IsRunner, IsRunnerAfter, RunsAt, after_runner, with_runner};
+ghost use Rattle.executions.specs.Runners.{IsRunner, IsRunnerAfter, RunsAt};
 ghost use Rattle.executions.specs.Seen.{seen};
 
 use crate::runner::Runner;
@@ -45,9 +45,9 @@ impl<R: Rng + Drop> State<R> {
         requires block { IsBlock project.now runner.old.target id block.now }
         requires inputs { length block.now.inputs ≡ 0 }
         requires op { block.now.op ≡ ControlForever }
-        ensures { Answers R.stream project.now slot (Steps R.stream project.now slot late (with_runner runner.old self.old)) result runner.new self.new }
+        ensures { Answers R.stream project.now slot (Steps R.stream project.now slot late self.old) result runner.new self.new }
     {
-        let params = runner.levels.params();
+        let params = self.threads.params(runner.which);
         let view = View {
             project,
             targets: &self.targets,
@@ -76,9 +76,9 @@ impl<R: Rng + Drop> State<R> {
         requires at { RunsAt project.now slot runner.old self.old id }
         requires block { IsBlock project.now runner.old.target id block.now }
         requires inputs { length block.now.inputs ≡ 0 }
-        ensures { Answers R.stream project.now slot (Steps R.stream project.now slot late (with_runner runner.old self.old)) result runner.new self.new }
+        ensures { Answers R.stream project.now slot (Steps R.stream project.now slot late self.old) result runner.new self.new }
     {
-        let params = runner.levels.params();
+        let params = self.threads.params(runner.which);
         let view = View {
             project,
             targets: &self.targets,
@@ -107,7 +107,7 @@ impl<R: Rng + Drop> State<R> {
         requires at { RunsAt project.now slot runner.old self.old id }
         requires block { IsBlock project.now runner.old.target id block.now }
         requires inputs { length block.now.inputs ≡ 0 }
-        ensures { Answers R.stream project.now slot (Steps R.stream project.now slot late (with_runner runner.old self.old)) result runner.new self.new }
+        ensures { Answers R.stream project.now slot (Steps R.stream project.now slot late self.old) result runner.new self.new }
     {
         if matches!(block.op, Opcode::ControlForever) {
             self.execute_forever(project, slot, runner, id, block, late)
@@ -131,9 +131,9 @@ impl<R: Rng + Drop> State<R> {
         requires at { RunsAt project.now slot runner.old self.old id }
         requires block { IsBlock project.now runner.old.target id block.now }
         requires inputs { length block.now.inputs ≡ 1 }
-        ensures { Answers R.stream project.now slot (Steps R.stream project.now slot late (with_runner runner.old self.old)) result runner.new self.new }
+        ensures { Answers R.stream project.now slot (Steps R.stream project.now slot late self.old) result runner.new self.new }
     {
-        let near = runner.levels.params();
+        let near = self.threads.params(runner.which);
         let view = View {
             project,
             targets: &self.targets,
@@ -166,9 +166,9 @@ impl<R: Rng + Drop> State<R> {
         late: bool,
     ) -> Result<Report, Stop>
         requires { RunsAt project.now slot runner.old self.old id }
-        ensures { Answers R.stream project.now slot (Steps R.stream project.now slot late (with_runner runner.old self.old)) result runner.new self.new }
+        ensures { Answers R.stream project.now slot (Steps R.stream project.now slot late self.old) result runner.new self.new }
     {
-        let params = runner.levels.params();
+        let params = self.threads.params(runner.which);
         let view = View {
             project,
             targets: &self.targets,
@@ -196,7 +196,7 @@ impl<R: Rng + Drop> State<R> {
         late: bool,
     ) -> Result<Report, Stop>
         requires { RunsAt project.now slot runner.old self.old id }
-        ensures { Answers R.stream project.now slot (Steps R.stream project.now slot late (with_runner runner.old self.old)) result runner.new self.new }
+        ensures { Answers R.stream project.now slot (Steps R.stream project.now slot late self.old) result runner.new self.new }
     {
         let block = project.cached(runner.target, id);
         match block.inputs.len() {
@@ -208,8 +208,7 @@ impl<R: Rng + Drop> State<R> {
 
     /// One execution of a runner, while the thread of a slot is visited: the inputs of its block, the block's row, and what
     /// the row's control does with this thread and with others. `late` says that warp time had passed before it. The answer
-    /// tells what the thread reports. Where the thread has ended it is given back, and the runner is only dropped. `Stop` is
-    /// the first limit that is met: `Stack` exactly where a level is opened and 65,536 are open, `Text` and `Counter` exactly
+    /// tells what the thread reports; where it has not ended, the runner tells where it stands now. `Stop` is the first limit that is met: `Stack` exactly where a level is opened and 65,536 are open, `Text` and `Counter` exactly
     /// where the machine meets them; the only other one is `NoMemory`. After a stop nothing is told of the run.
     #[inline]
     pub fn step(
@@ -221,11 +220,11 @@ impl<R: Rng + Drop> State<R> {
         late: bool,
     ) -> Result<Report, Stop>
         requires { IsRunner project.now slot runner.old self.old }
-        ensures ok { IfOk result (λ report. machine.step (program_of project.now) slot late (seen R.stream project.now (with_runner runner.old self.old)) ≡ Goes (record { world = seen R.stream project.now (after_runner report runner.new self.new); report = report })) }
+        ensures ok { IfOk result (λ report. machine.step (program_of project.now) slot late (seen R.stream project.now self.old) ≡ Goes (record { world = seen R.stream project.now self.new; report = report })) }
         ensures after { IfOk result (λ report. IsRunnerAfter project.now slot report runner.new self.new) }
-        ensures stop { StopIs result (machine.step (program_of project.now) slot late (seen R.stream project.now (with_runner runner.old self.old))) }
+        ensures stop { StopIs result (machine.step (program_of project.now) slot late (seen R.stream project.now self.old)) }
     {
-        match runner.block() {
+        match self.block_of(runner) {
             Some(id) => self.execute(alloc, project, slot, runner, id, late),
             None => unreachable!(),
         }

@@ -2,9 +2,8 @@
 //!
 //! All work on the one `State` of `state`, which `first_state` makes. `execution` evaluates the inputs of the block at which a
 //! `runner` stands and hands it to `enactment`. That asks `choices` where the block leads, if it only chooses; of any other
-//! block it applies the row, of `rows`, and gives the row's control to `own_controls`, which moves the runner by `runner_moves`.
-//! A control that acts on others goes to `other_controls`, and so to `start_control`, `stop_controls` or `clone_control`: the
-//! runner's levels are back in the list of threads then, where `listed_moves` moves them. `line_hats` starts hats between frames.
+//! block it applies the row, of `rows`, and gives the row's control to `own_controls`, or, where it acts on others, to
+//! `other_controls`, and so to `start_control`, `stop_controls` or `clone_control`. `line_hats` starts hats between frames.
 #![tactic(auto)]
 
 mod choices;
@@ -13,12 +12,10 @@ mod enactment;
 mod execution;
 mod first_state;
 mod line_hats;
-mod listed_moves;
 mod other_controls;
 mod own_controls;
 mod rows;
 mod runner;
-mod runner_moves;
 mod start_control;
 mod state;
 mod stop_controls;

@@ -7,19 +7,19 @@ ghost use Rattle.machine_spec.specs.Outcome.{StopIs, most_levels};
 ghost use Rattle.machine_spec.specs.Starting.{open_levels};
 ghost use Rattle.machine_spec.specs.Step.{position, opens_level};
 ghost use Rattle.project_check.specs.Loaded.{program_of};
+ghost use Rattle.thread_frames.specs.Stops.{PushStopIs};
 ghost use Rattle.thread_frames.specs.Threads.{frames};
-ghost use Rattle.thread_moves.specs.Standing.{is_ended};
 ghost use Rattle.executions.specs.Blocks.{HasKind};
-ghost use Rattle.executions.specs.Moves.{IsAtBlock, MovesOn, room_for};
-ghost use Rattle.executions.specs.Runners.{IsApart, IsMoved, given_back, given_unless};
+ghost use Rattle.thread_moves.specs.Moves.{IsAtBlock, MovesOn};
+ghost use Rattle.executions.specs.Room.{room_for, stops_as};
 
 use crate::runner::Runner;
-use crate::runner_moves::{call, enter, go_on, stay, stop_this_script};
 use crate::state::State;
 use machine_spec::{BlockId, Context, Control, Report};
 use project_check::Project;
 use script_words::{Rng, Stop};
-use thread_frames::Threads;
+use thread_frames::{PushStop, Threads};
+use thread_moves::{call, enter, go_on, stay, stop_this_script};
 
 // Whether a control is of its own thread alone.
 #[inline]
@@ -42,35 +42,62 @@ pub(crate) fn is_own(control: &Control) -> bool
     }
 }
 
+// The stop of a level that was not opened.
+pub(crate) fn stop_of(stop: PushStop) -> Stop
+    ensures { stops_as stop result }
+{
+    match stop {
+        PushStop::Full => Stop::Stack,
+        PushStop::NoMemory => Stop::NoMemory,
+    }
+}
+
 // Moves a runner as a control says that is of its own thread alone; its block keeps the context.
 fn act_own(
     project: &Project,
     threads: &mut Threads,
-    runner: &mut Runner,
+    runner: &Runner,
     id: BlockId,
     control: Control,
     context: Context,
     late: bool,
-) -> Result<Report, Stop>
-    requires at { IsAtBlock project.now runner.old.which (given_back runner.old threads.old) runner.old.target id }
-    requires apart { IsApart runner.old threads.old }
+) -> Result<Report, PushStop>
+    requires at { IsAtBlock project.now runner.now.which threads.old runner.now.target id }
     requires own { laws.is_own control ≡ true }
-    requires fits { HasKind project.now runner.old.target id (λ k. control_fits control k context) }
-    ensures at { IfOk result (λ report. MovesOn project.now runner.old.which runner.old.target id (λ s rest warp. position (program_of project.now) late warp s rest control context) (given_back runner.old threads.old) (given_unless (is_ended report) runner.new threads.new) report) }
-    ensures moved { IfOk result (λ report. IsMoved runner.old runner.new threads.old threads.new report) }
-    ensures room { IfOk result (λ report. opens_level control ≡ true → open_levels frames (given_back runner.old threads.old) < most_levels) }
-    ensures stop { StopIs result (room_for (opens_level control) (open_levels frames (given_back runner.old threads.old))) }
+    requires fits { HasKind project.now runner.now.target id (λ k. control_fits control k context) }
+    ensures at { IfOk result (MovesOn project.now runner.now.which runner.now.target id (λ s rest warp. position (program_of project.now) late warp s rest control context) threads.old threads.new) }
+    ensures room { IfOk result (λ report. opens_level control ≡ true → open_levels frames threads.old < most_levels) }
+    ensures stop { PushStopIs result (room_for (opens_level control) (open_levels frames threads.old)) }
 {
+    let (which, target) = (runner.which, runner.target);
     match control {
-        Control::Next => Ok(go_on(project, threads, runner, id)),
+        Control::Next => Ok(go_on(project, threads, which, target, id)),
         Control::Branch { number, is_loop } => {
-            enter(project, threads, runner, id, number, is_loop, context)
+            enter(
+                project, threads, which, target, id, number, is_loop, context,
+            )
         }
-        Control::Yield => Ok(stay(project, threads, runner, id, context, Report::Yielded)),
-        Control::YieldTick => Ok(stay(project, threads, runner, id, context, Report::Ticked)),
-        Control::Promise => Ok(stay(project, threads, runner, id, context, Report::Waits)),
-        Control::Call { params, .. } => call(project, threads, runner, id, params, late),
-        Control::StopThis => Ok(stop_this_script(project, threads, runner, id)),
+        Control::Yield => Ok(stay(
+            project,
+            threads,
+            which,
+            target,
+            id,
+            context,
+            Report::Yielded,
+        )),
+        Control::YieldTick => Ok(stay(
+            project,
+            threads,
+            which,
+            target,
+            id,
+            context,
+            Report::Ticked,
+        )),
+        Control::Promise => Ok(stay(project, threads, which, target, id, context, Report::Waits)),
+        Control::Call { params, .. } => call(project, threads, which, target, id, params, late),
+        Control::StopThis => Ok(stop_this_script(project, threads, which, target, id)),
         Control::StopOthers => unreachable!(),
         Control::StopAll => unreachable!(),
         Control::DeleteClone => unreachable!(),
@@ -84,23 +111,31 @@ impl<R: Rng + Drop> State<R> {
     pub(crate) fn act_own(
         &mut self,
         project: &Project,
-        runner: &mut Runner,
+        runner: &Runner,
         id: BlockId,
         control: Control,
         context: Context,
         late: bool,
     ) -> Result<Report, Stop>
-        requires at { IsAtBlock project.now runner.old.which (given_back runner.old self.old.threads) runner.old.target id }
-        requires apart { IsApart runner.old self.old.threads }
+        requires at { IsAtBlock project.now runner.now.which self.old.threads runner.now.target id }
         requires own { laws.is_own control ≡ true }
-        requires fits { HasKind project.now runner.old.target id (λ k. control_fits control k context) }
-        ensures at { IfOk result (λ report. MovesOn project.now runner.old.which runner.old.target id (λ s rest warp. position (program_of project.now) late warp s rest control context) (given_back runner.old self.old.threads) (given_unless (is_ended report) runner.new self.new.threads) report) }
-        ensures moved { IfOk result (λ report. IsMoved runner.old runner.new self.old.threads self.new.threads report) }
-        ensures room { IfOk result (λ report. opens_level control ≡ true → open_levels frames (given_back runner.old self.old.threads) < most_levels) }
+        requires fits { HasKind project.now runner.now.target id (λ k. control_fits control k context) }
+        ensures at { IfOk result (MovesOn project.now runner.now.which runner.now.target id (λ s rest warp. position (program_of project.now) late warp s rest control context) self.old.threads self.new.threads) }
+        ensures room { IfOk result (λ report. opens_level control ≡ true → open_levels frames self.old.threads < most_levels) }
         ensures others { self.new ≡ record self.old { threads = self.new.threads } }
-        ensures stop { StopIs result (room_for (opens_level control) (open_levels frames (given_back runner.old self.old.threads))) }
+        ensures stop { StopIs result (room_for (opens_level control) (open_levels frames self.old.threads)) }
     {
-        let threads = &mut self.threads;
-        act_own(project, threads, runner, id, control, context, late)
+        match act_own(
+            project,
+            &mut self.threads,
+            runner,
+            id,
+            control,
+            context,
+            late,
+        ) {
+            Ok(report) => Ok(report),
+            Err(stop) => Err(stop_of(stop)),
+        }
     }
 }

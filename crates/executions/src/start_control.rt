@@ -7,12 +7,11 @@ ghost use Rattle.machine_spec.specs.Places.{running};
 ghost use Rattle.machine_spec.specs.Step.{after_start};
 ghost use Rattle.executions.specs.Answers.{ActsAs};
 ghost use Rattle.executions.specs.Blocks.{HasKind};
-ghost use Rattle.executions.specs.Moves.{IsAtBlock, MovesOn};
+ghost use Rattle.thread_moves.specs.Moves.{IsAtBlock, MovesOn};
 ghost use Rattle.executions.specs.Nexts.{next_of};
 ghost use Rattle.executions.specs.Ready.{IsReady};
 
 use crate::execution::Next;
-use crate::listed_moves::{go_on, stay};
 use crate::state::State;
 use hats::start;
 use machine_spec::{BlockId, Boxed, Context, Filter, Report, Serials, TargetId, Which};
@@ -20,6 +19,7 @@ use project_check::Project;
 use script_words::{Rng, Stop};
 use std::alloc::{AllocError, Global};
 use thread_frames::Threads;
+use thread_moves::{go_on, stay};
 
 // Stays at the block of the top level, which keeps the numbers of the threads that it waits for.
 fn wait_for(

@@ -12,13 +12,13 @@ ghost use Rattle.executions.specs.Resting.{IsIdle};
 ghost use Rattle.executions.specs.Seen.{seen};
 
 use crate::execution::Next;
-use crate::listed_moves::go_on;
 use crate::state::State;
 use machine_spec::{InstanceId, Report, Which};
 use project_check::Project;
 use script_words::{Rng, Stop};
 use speech_bubbles::drop_questions;
 use std::alloc::Global;
+use thread_moves::go_on;
 
 // Whether an instance is a clone: an original has the number of its target.
 fn is_clone(project: &Project, id: InstanceId) -> bool

@@ -6,7 +6,6 @@ use Rattle.std.specs.Option.{option_map}
 use Rattle.std.proofs.lemmas.Option.{slice_get-map}
 use Rattle.rand_core.specs.Stream.{Stream}
 use Rattle.machine_spec.specs.Lists.{set_some, changed_at_some, first_changed}
-use Rattle.machine_spec.specs.Outcome.{most_levels}
 use Rattle.machine_spec.specs.declared.threads.Which.TheVariants.{Slot}
 use Rattle.machine_spec.specs.Places.{Places, put, on_place}
 use Rattle.machine_spec.specs.Tasks.{Task, resumed_task, resumed}
@@ -14,48 +13,38 @@ use Rattle.machine_spec.specs.Threads.{is_done}
 use Rattle.machine_spec.specs.declared.threads.Status.TheVariants.{Running}
 use Rattle.project_check.specs.declared.project.Project.{Project}
 use Rattle.variables.proofs.Places.{position-map}
-use Rattle.thread_frames.specs.declared.level.Level.{Level}
-use Rattle.thread_frames.specs.Counting.{open_in}
-use Rattle.thread_frames.specs.Fit.{Fits}
+use Rattle.thread_frames.specs.Fit.{Fits, IsAtRest}
 use Rattle.thread_frames.specs.Reading.{task}
 use Rattle.thread_frames.specs.Threads.{Thread, on_levels, levels_of, with_status}
-use Rattle.thread_frames.proofs.Counts.{open_in-put}
+use Rattle.thread_moves.specs.Moves.{OnlyLevels}
 use Rattle.thread_moves.specs.Resuming.{IsResumed}
 use Rattle.executions.specs.declared.state.State.{State}
 use Rattle.executions.specs.Seen.{sheets, seen, seen_threads}
 use Rattle.executions.specs.Ready.{AllFit}
-use Rattle.machine_spec.proofs.Placing.{on_is, on_again, put_seen, everyone_at, everyone_put}
+use Rattle.machine_spec.proofs.Placing.{on_is, on_twice, put_seen, everyone_at, everyone_put}
 use Rattle.executions.specs.Resting.{IsIdle}
 use Rattle.executions.proofs.Keeping.{kept_put}
 use Rattle.frames.specs.Resuming.{running_with, IsResumedAt}
 
--- Levels that are taken, moved and put back
+-- The levels of a thread are moved, and it is running
 
-module _ (p : Project) (slot : ℕ) (old mid : Places Thread) (t : Thread) (found : slice_get old.list slot ≡ Some t) (fits : AllFit p old) (alive : All (λ x. is_done x.status ≡ false) old.list)
-    (lent : List Level) (levels_is : lent ≡ levels_of (slice_get old.list slot)) (taken : mid ≡ on_place (on_levels (λ ls. [])) (Slot slot) old) where
-  lent_is : lent ≡ t.levels
-  lent_is = levels_is ∙ ap levels_of found
-
+module _ (p : Project) (slot : ℕ) (old : Places Thread) (t : Thread) (found : slice_get old.list slot ≡ Some t) (fits : AllFit p old) (alive : All (λ x. is_done x.status ≡ false) old.list) where
   is_alive : is_done t.status ≡ false
   is_alive = everyone_at (λ x. is_done x.status ≡ false) (Slot slot) (record { list = old.list; detached = None }) t (record { listed = alive; detached = tt }) found
 
-  mid_is : mid ≡ put (Slot slot) (on_levels (λ ls. []) t) old
-  mid_is = on_is (on_levels (λ ls. [])) (Slot slot) old mid t found taken
+  pub at_rest : (target : ℕ) → target ≡ t.target → IsAtRest (sheets p target) (levels_of (slice_get old.list slot))
+  at_rest target same =
+      subst (λ n. IsAtRest (sheets p n) (levels_of (slice_get old.list slot))) (sym same)
+      (subst (λ o. IsAtRest (sheets p t.target) (levels_of o)) (sym found) ((everyone_at (Fits (sheets p)) (Slot slot) old t fits.all found).open_levels is_alive))
 
-  pub room : (n : ℕ) → open_in old ≤ most_levels → n ≤ length lent → open_in mid + n ≤ most_levels
-  room n few le =
-      let e = open_in-put (Slot slot) t (on_levels (λ ls. []) t) old found in
-      let s : open_in mid ≡ open_in (put (Slot slot) (on_levels (λ ls. []) t) old) = ap open_in mid_is in
-      omega (arith, e, s, ap length lent_is)
-
-  pub went_on : (levels : List Level) (back new : Places Thread) → IsResumed (sheets p t.target) lent levels → back ≡ on_place (on_levels (λ ls. levels)) (Slot slot) mid → new ≡ on_place (with_status Running) (Slot slot) back → IsResumedAt p slot old new
-  went_on levels back new res e f = record {
+  pub went_on : (mid new : Places Thread) → IsResumed (sheets p t.target) (levels_of (slice_get old.list slot)) (levels_of (slice_get mid.list slot)) → OnlyLevels (Slot slot) old mid → new ≡ on_place (with_status Running) (Slot slot) mid → IsResumedAt p slot old new
+  went_on mid new res only f = record {
     before = t;
     found = found;
-    levels = levels;
-    new_is = on_again (with_status Running) (Slot slot) old back new t (on_levels (λ ls. levels) t) found
-        (on_again (on_levels (λ ls. levels)) (Slot slot) old mid back t (on_levels (λ ls. []) t) found mid_is e) f;
-    resumed = subst (λ ls. IsResumed (sheets p t.target) ls levels) lent_is res;
+    levels = levels_of (slice_get mid.list slot);
+    new_is = on_is (running_with (levels_of (slice_get mid.list slot))) (Slot slot) old new t found
+        (on_twice (on_levels (λ ls. levels_of (slice_get mid.list slot))) (with_status Running) (Slot slot) old mid new only f);
+    resumed = subst (λ o. IsResumed (sheets p t.target) (levels_of o) (levels_of (slice_get mid.list slot))) found res;
   }
 
 -- What is seen of it

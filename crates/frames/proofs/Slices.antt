@@ -17,8 +17,7 @@ use Rattle.executions.specs.declared.state.State.{State}
 use Rattle.executions.specs.Seen.{sheets, seen_threads}
 use Rattle.executions.specs.declared.runner.Runner.{Runner}
 use Rattle.executions.specs.Ready.{IsKept}
-use Rattle.executions.specs.Runners.{IsRunner, IsRunnerUnless, IsRunnerAfter, after_runner, given_back, given_unless, with_runner}
-use Rattle.executions.proofs.Apart.{back_levels, back_place}
+use Rattle.executions.specs.Runners.{IsRunner, IsRunnerUnless, IsRunnerAfter}
 use Rattle.machine_spec.proofs.Placing.{running_seen}
 use Rattle.executions.proofs.Stops.{stop-then, stop-same}
 
@@ -53,11 +52,8 @@ off_by r before after flag late same h = by (is_ended r) refl
     by false e = h ∙ ap (λ x. slice_goes_on r before x late) (same e)
 
 -- the flag of a runner is that of its thread in the list
-pub runner_flag : {R : Type 0} (p : Project) (i : ℕ) (r : Runner) (w : State R) → IsRunner p i r w → flag_of (running i (seen_threads p (given_back r w.threads))) ≡ warp_flag r.levels
-runner_flag p i r w runs =
-    flag_seen p i (given_back r w.threads)
-    ∙ ap (λ z. warp_flag (levels_of (at_place z (given_back r w.threads)))) (sym (back_place r w.threads runs.apart i runs.place_is))
-    ∙ ap warp_flag (back_levels r w.threads runs.apart)
+pub runner_flag : {R : Type 0} (p : Project) (i : ℕ) (r : Runner) (w : State R) → IsRunner p i r w → flag_of (running i (seen_threads p w.threads)) ≡ warp_flag (levels_of (at_place r.which w.threads))
+runner_flag p i r w runs = flag_seen p i w.threads ∙ ap (λ z. warp_flag (levels_of (at_place z w.threads))) (sym runs.place_is)
 
 runs_by : {R : Type 0} (b : Bool) (p : Project) (i : ℕ) (r : Runner) (w : State R) → b ≡ false → IsRunnerUnless b p i r w → IsRunner p i r w
 runs_by true p i r w e h = absurd (cc e)
@@ -68,17 +64,14 @@ module _ {R : Type 0} (p : Project) (i : ℕ) (report : Report) (r : Runner) (w 
   pub still_runs : is_ended report ≡ false → IsRunner p i r w
   still_runs e = runs_by (is_ended report) p i r w e runs
 
-  pub still_given : is_ended report ≡ false → after_runner report r w ≡ with_runner r w
-  still_given e = ap (λ b. record w { threads = given_unless b r w.threads }) e
+  pub flag_after : is_ended report ≡ false → warp_flag (levels_of (at_place r.which w.threads)) ≡ flag_of (running i (seen_threads p w.threads))
+  flag_after e = sym (runner_flag p i r w (still_runs e))
 
-  pub flag_after : is_ended report ≡ false → warp_flag r.levels ≡ flag_of (running i (seen_threads p (after_runner report r w).threads))
-  flag_after e = sym (ap (λ (x : State R). flag_of (running i (seen_threads p x.threads))) (still_given e) ∙ runner_flag p i r w (still_runs e))
-
-  kept_by : (b : Bool) → IsRunnerUnless b p i r w → IsKept p (record w { threads = given_unless b r w.threads })
+  kept_by : (b : Bool) → IsRunnerUnless b p i r w → IsKept p w
   kept_by true h = h
   kept_by false h = h.ready.kept
 
-  pub after_kept : IsKept p (after_runner report r w)
+  pub after_kept : IsKept p w
   after_kept = kept_by (is_ended report) runs
 
 -- Slices, whatever a world and its execution are

@@ -21,7 +21,7 @@ use Rattle.thread_moves.proofs.Items.{at_block}
 use Rattle.project_check.specs.declared.project.Project.{Project}
 use Rattle.project_check.specs.Loaded.{program_of}
 use Rattle.executions.specs.declared.state.State.{State}
-use Rattle.executions.specs.Moves.{with_levels}
+use Rattle.thread_moves.specs.Moves.{with_levels}
 use Rattle.executions.specs.Ready.{IsKept, IsReady}
 use Rattle.executions.specs.Seen.{sheets, seen}
 use Rattle.machine_spec.proofs.Placing.{on_is, everyone_at, running_seen}

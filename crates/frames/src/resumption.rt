@@ -27,11 +27,8 @@ fn resume_at(project: &Project, threads: &mut Threads, slot: u64) -> Result<(), 
         Some(thread) => thread.target(),
         None => unreachable!(),
     };
-    let _open = threads.levels();
-    let mut levels = threads.take_levels(which);
-    match thread_moves::resume(project, target, &mut levels) {
+    match thread_moves::resume(project, target, threads, which) {
         Ok(()) => {
-            threads.put_levels(which, levels);
             threads.set_status(which, Status::Running);
             Ok(())
         }

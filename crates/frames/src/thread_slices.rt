@@ -6,14 +6,12 @@ ghost use Rattle.machine_spec.specs.Places.{at_place};
 ghost use Rattle.machine_spec.specs.Slice as machine;
 ghost use Rattle.thread_frames.specs.Levels.{top_block};
 ghost use Rattle.thread_frames.specs.Threads.{levels_of};
-ghost use Rattle.thread_moves.specs.Standing.{is_ended as has_ended};
 ghost use Rattle.project_check.specs.Loaded.{program_of};
 ghost use Rattle.executions.specs.Ready.{IsKept, IsReady};
-ghost use Rattle.executions.specs.Runners.{IsRunnerAfter, after_runner};
 ghost use Rattle.executions.specs.Seen.{seen};
 ghost use Rattle.frames.specs.Turns.{CanTurn};
 
-use executions::{Runner, State};
+use executions::State;
 use machine_spec::{Report, Which};
 use project_check::Project;
 use script_words::{Rng, Stop};
@@ -34,31 +32,6 @@ fn counted_after(counted: u32, flag: bool) -> u32
         counted + 1
     } else {
         counted
-    }
-}
-
-// Whether the thread has ended that reports this.
-#[inline]
-fn is_ended(report: Report) -> bool
-    ensures { result ≡ has_ended report }
-{
-    matches!(report, Report::Ended)
-}
-
-// Gives a runner back, unless its thread has ended.
-#[inline]
-fn put_back<R: Rng + Drop>(
-    state: &mut State<R>,
-    project: &Project,
-    slot: u64,
-    runner: Runner,
-    report: Report,
-)
-    requires { IsRunnerAfter project.now slot report runner state.old }
-    ensures { state.new ≡ after_runner report runner state.old }
-{
-    if !is_ended(report) {
-        state.put_runner(runner);
     }
 }
 
@@ -95,16 +68,15 @@ pub fn slice<R: Rng + Drop>(
     ensures stop { StopIs result (machine.slice (program_of project.now) warp slot machine.most_executions 0 (seen R.stream project.now state.old)) }
     ensures kept { IfOk result (λ _. IsKept project.now state.new) }
 {
-    let mut runner = state.take_runner(project, slot);
+    let mut runner = state.runner(project, slot);
     let mut counted: u32 = 0;
-    let mut before = runner.is_warp();
+    let mut before = state.is_warp(&runner);
     for execution in 0..MOST_EXECUTIONS {
         match state.step(alloc, project, slot, &mut runner, counted > warp) {
             Ok(report) => {
                 counted = counted_after(counted, before);
-                let after = runner.is_warp();
+                let after = state.is_warp(&runner);
                 if !goes_on(report, before, after, counted > warp) {
-                    put_back(state, project, slot, runner, report);
                     return Ok(());
                 }
                 before = after;
@@ -112,7 +84,6 @@ pub fn slice<R: Rng + Drop>(
             Err(stop) => return Err(stop),
         }
     }
-    state.put_runner(runner);
     Ok(())
 }
 

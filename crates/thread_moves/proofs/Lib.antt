@@ -1,3 +1,5 @@
+pub mod InPlace
+pub mod Opened
 pub mod Fits
 pub mod Items
 pub mod Settles

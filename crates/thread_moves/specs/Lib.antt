@@ -1,3 +1,4 @@
 pub mod Ranked
 pub mod Standing
 pub mod Resuming
+pub mod Moves

@@ -1,4 +1,4 @@
-//! What the controls of executions do with the levels of one thread: they stand where the thread's pending list stands
+//! What the controls of executions do with one thread in its place: its levels stand where the thread's pending list stands
 //! (scratch-vm, engine/thread.js and engine/sequencer.js, stepToBranch, stepToProcedure).
 #![tactic(auto)]
 
@@ -8,7 +8,6 @@ mod links;
 mod procedure_calls;
 mod resumption;
 
-pub use empty_levels::settle;
-pub use level_moves::{enter, go_on, stay, stop_this_script};
+pub use level_moves::{enter, go_on, is_warp, stay, stop_this_script};
 pub use procedure_calls::call;
 pub use resumption::resume;

@@ -1,28 +1,31 @@
 //! Procedures that a thread calls.
 
-ghost use Rattle.std.specs.Prelude.{◌≡◌, ◌≤◌, ◌+◌, ◌&&◌, length, true, false, Some, IfOk, bytes_eq, slice_get};
+ghost use Rattle.std.specs.Prelude.{◌≡◌, ◌<◌, ◌&&◌, true, false, Some, IfOk, bytes_eq, slice_get};
 ghost use Rattle.opcode_table.specs.Kinds.{kind};
 ghost use Rattle.cached_blocks.specs.declared.block.CachedBlock.{CachedBlock};
 ghost use Rattle.cached_blocks.specs.Cached.{cached_blocks};
 ghost use Rattle.project_spec.specs.Trees.{call_code};
 ghost use Rattle.machine_spec.specs.Called.{called};
 ghost use Rattle.machine_spec.specs.Keeping.{is_called, is_calls};
+ghost use Rattle.machine_spec.specs.Outcome.{most_levels, with_room};
 ghost use Rattle.machine_spec.specs.Pending as machine;
+ghost use Rattle.machine_spec.specs.Starting.{open_levels};
 ghost use Rattle.machine_spec.specs.Step.{entered_some};
 ghost use Rattle.project_check.specs.Loaded.{program_of, sheet_at};
 ghost use Rattle.thread_frames.specs.Fit.{IsUnder, AreStacked};
-ghost use Rattle.thread_frames.specs.Levels.{warp_flag};
 ghost use Rattle.thread_frames.specs.Reading.{pending};
-ghost use Rattle.thread_moves.specs.Standing.{MovesTo, TopHolds, is_ended};
+ghost use Rattle.thread_frames.specs.Stops.{PushStopIs};
+ghost use Rattle.thread_frames.specs.Threads.{frames};
+ghost use Rattle.thread_moves.specs.Moves.{IsAtBlock, MovesOn, levels_at};
+ghost use Rattle.thread_moves.specs.Standing.{is_ended};
 
 use crate::empty_levels::settle;
-use crate::level_moves::is_warp;
+use crate::level_moves::{is_warp, report_of};
 use crate::links::linked;
-use machine_spec::{BlockId, Boxed, Context, Report, TargetId};
+use machine_spec::{BlockId, Boxed, Context, MOST_LEVELS, Report, TargetId, Which};
 use project_check::Project;
 use scratch_values::Params;
-use std::alloc::AllocError;
-use thread_frames::{Level, Levels};
+use thread_frames::{Level, PushStop, Threads};
 
 // Whether a block that keeps this has called.
 fn is_open_call(context: &Context) -> bool
@@ -45,13 +48,19 @@ fn has_called(project: &Project, target: TargetId, level: &Level, code: &str) ->
     }
 }
 
-// Whether one of the six levels under the top one has called a procedure of the code.
-fn is_recursive(project: &Project, target: TargetId, levels: &Levels, code: &str) -> bool
-    requires { AreStacked (sheet_at target project.now) levels.now }
-    ensures { result ≡ machine.is_recursive code.now 6 (pending (sheet_at target project.now) levels.now) }
+// Whether one of the six levels of a thread under the top one has called a procedure of the code.
+fn is_recursive(
+    project: &Project,
+    target: TargetId,
+    threads: &Threads,
+    which: Which,
+    code: &str,
+) -> bool
+    requires { AreStacked (sheet_at target project.now) (levels_at which threads.now) }
+    ensures { result ≡ machine.is_recursive code.now 6 (pending (sheet_at target project.now) (levels_at which threads.now)) }
 {
     for from_top in 1..7 {
-        match levels.get(from_top) {
+        match threads.level(which, from_top) {
             Some(level) => {
                 if has_called(project, target, level, code) {
                     return true;
@@ -76,35 +85,47 @@ fn call_report(in_warp: bool, late: bool, is_warp: bool, recursive: bool) -> Rep
     if yields { Report::Yielded } else { Report::Go }
 }
 
-/// Enters the procedure that the block of the top level calls, with its parameters. A call of no procedure goes on behind the
-/// block. The only error is want of memory.
+/// Enters the procedure that the block of the top level of a thread calls, with its parameters. A call of no procedure goes on
+/// behind the block. Full exactly where 65,536 levels are open; the only other error is want of
+/// memory. After an error nothing is told of the thread.
 pub fn call(
     project: &Project,
+    threads: &mut Threads,
+    which: Which,
     target: TargetId,
-    levels: &mut Levels,
     id: BlockId,
     params: Boxed<Params>,
     late: bool,
-) -> Result<Report, AllocError>
-    requires top { TopHolds (sheet_at target project.now) levels.old id }
+) -> Result<Report, PushStop>
+    requires at { IsAtBlock project.now which threads.old target id }
     requires calls { (b : CachedBlock) → slice_get (cached_blocks (sheet_at target project.now)) id ≡ Some b → is_calls (kind b.op) ≡ true }
-    ensures at { IfOk result (MovesTo (sheet_at target project.now) id (λ s rest. entered_some (called (program_of project.now) s) late (warp_flag levels.old) s rest params) levels.old levels.new) }
-    ensures more { length levels.new ≤ length levels.old + 1 }
+    ensures room { IfOk result (λ r. open_levels frames threads.old < most_levels) }
+    ensures at { IfOk result (MovesOn project.now which target id (λ s rest warp. entered_some (called (program_of project.now) s) late warp s rest params) threads.old threads.new) }
+    ensures stop { PushStopIs result (with_room (open_levels frames threads.old) threads.old) }
 {
+    if threads.levels() as usize >= MOST_LEVELS {
+        return Err(PushStop::Full);
+    }
     let block = linked(project, target, id);
     match project.callee(target, block.code.as_str()) {
         None => {
-            levels.go_next(block.next);
-            Ok(settle(project, target, levels))
+            threads.go_next(which, block.next);
+            let report = settle(project, target, threads, which);
+            Ok(report_of(threads, which, report))
         }
         Some(callee) => {
-            let warp = is_warp(levels);
+            let warp = is_warp(threads, which);
             let code = callee.prototype.code.as_str();
-            let recursive = is_recursive(project, target, levels, code);
-            levels.set_context(Context::Called);
-            levels.set_params(params);
-            levels.push(Some(callee.definition), warp || callee.prototype.warp)?;
-            Ok(call_report(warp, late, callee.prototype.warp, recursive))
+            let recursive = is_recursive(project, target, threads, which, code);
+            threads.set_context(which, Context::Called);
+            threads.set_params(which, params);
+            let opened = Some(callee.definition);
+            match threads.push(which, opened, warp || callee.prototype.warp) {
+                Ok(()) => {}
+                Err(stop) => return Err(stop),
+            }
+            let report = call_report(warp, late, callee.prototype.warp, recursive);
+            Ok(report_of(threads, which, report))
         }
     }
 }

@@ -1,18 +1,14 @@
--- The top level has come to the next block.
-use Rattle.std.proofs.Common.{sym, ap, ◌∙◌, refl}
+-- The levels have passed the block, and the thread stands as its report says.
+use Rattle.std.proofs.Common.{subst, sym}
 use Rattle.machine_spec.specs.Pending.{settle}
-use Rattle.thread_frames.specs.Levels.{on_top, at_next, warp_flag}
-use Rattle.thread_moves.proofs.Moves.{told, next_is, cached_is}
-use Rattle.thread_moves.proofs.Settles.{IsAt-move}
+use Rattle.thread_moves.specs.Moves.{MovesOn}
+use Rattle.thread_moves.proofs.InPlace.{top_at, moves_on}
 use Rattle.thread_moves.proofs.level_moves.go_on.Goals as goal
 
-next : goal.settle-requires
-next c = record { fit = (next_is _ _ _ c.linked-block.ensures.ranked c.requires _ (c.go_next.ensures ∙ ap (λ x. on_top (at_next x.next) c.args.levels.now) (cached_is _ _ _ c.linked-block.ensures.ranked c.requires _ c.linked-block.ensures.block))).0 }
+pub pass-report-requires : goal.pass-report-requires
+pass-report-requires c = top_at _ _ _ _ _ c.requires
 
-pub settle-requires : goal.settle-requires
-settle-requires c = next c
-
-pub returns-clause-at : goal.returns-clause-at
-returns-clause-at c =
-    told _ _ _ c.linked-block.ensures.ranked c.requires (λ s rest. settle rest (warp_flag c.args.levels.now)) _ _
-    (IsAt-move _ _ _ _ _ _ (sym (next_is _ _ _ c.linked-block.ensures.ranked c.requires _ (c.go_next.ensures ∙ ap (λ x. on_top (at_next x.next) c.args.levels.now) (cached_is _ _ _ c.linked-block.ensures.ranked c.requires _ c.linked-block.ensures.block))).1) refl c.settle.ensures.at)
+pub returns : goal.returns
+returns c =
+    subst (MovesOn c.args.project.now c.args.which c.args.target c.args.id (λ s rest warp. settle rest warp) c.args.threads.now c.report_of.new.threads) (sym c.report_of.ensures.same)
+    (moves_on _ _ _ _ _ c.requires _ _ c.pass-report.result c.pass-report.ensures.only c.report_of.ensures.status (λ s rest warp. settle rest warp) c.pass-report.ensures.at)

@@ -1,42 +1,60 @@
 -- The procedure is entered, or the block is passed.
-use Rattle.std.proofs.Common.{◌≡◌, ◌∷◌, Some, None, true, sym, ap, ◌∙◌, refl, arith}
+use Rattle.std.proofs.Common.{◌≡◌, ◌∷◌, ◌≤◌, ◌<◌, Some, None, true, false, sym, ap, ◌∙◌, refl, subst, arith}
 use Rattle.std.specs.Prelude.{◌||◌, option_map}
 use Rattle.opcode_table.specs.Kinds.{kind}
 use Rattle.machine_spec.specs.Keeping.{is_calls}
 use Rattle.machine_spec.specs.Called.{called}
+use Rattle.machine_spec.specs.Outcome.{most_levels}
 use Rattle.machine_spec.specs.Pending as machine
 use Rattle.machine_spec.specs.Program.{procedure}
+use Rattle.machine_spec.specs.Starting.{open_levels}
 use Rattle.machine_spec.specs.Step.{entered_some}
+use Rattle.machine_spec.specs.declared.threads.Context.TheVariants.{Called}
+use Rattle.machine_spec.specs.declared.threads.Report.{Report}
 use Rattle.project_check.specs.Loaded.{program_of, sheet_at}
 use Rattle.project_check.specs.Procedures.{callee_in, procedure_in}
 use Rattle.project_spec.specs.Trees.{call_code}
-use Rattle.thread_frames.specs.Levels.{new_level, on_top, at_next, with_params, warp_flag}
+use Rattle.thread_frames.specs.Levels.{new_level, on_top, at_next, with_context, with_params, warp_flag}
 use Rattle.thread_frames.specs.Reading.{pending}
-use Rattle.thread_moves.proofs.Moves.{told, next_is, cached, cached_is}
+use Rattle.thread_frames.specs.Threads.{frames}
+use Rattle.thread_moves.specs.Moves.{MovesOn, levels_at}
+use Rattle.thread_moves.proofs.InPlace.{levels_are, only_on, only_then, no_room, top_at, moves_on}
+use Rattle.thread_moves.proofs.Moves.{told, next_is, cached, cached_is, top_stacked}
 use Rattle.thread_moves.proofs.Calls.{call_is, enters}
+use Rattle.thread_moves.proofs.Opened.{levels_three, only_three, stops_two}
 use Rattle.thread_moves.proofs.Settles.{IsAt-move}
 use Rattle.thread_moves.proofs.procedure_calls.call.Goals as goal
 use Rattle.thread_moves.proofs.procedure_calls.call.Goals.{then-warp, else-warp}
 
-pub settle-requires : goal.settle-requires
-settle-requires c = record { fit = (next_is _ _ _ c.linked-block.ensures.ranked c.requires.top _ (c.go_next.ensures ∙ ap (λ x. on_top (at_next x.next) c.args.levels.now) (cached_is _ _ _ c.linked-block.ensures.ranked c.requires.top _ c.linked-block.ensures.block))).0 }
+pub settle-report-requires : goal.settle-report-requires
+settle-report-requires c =
+    let th = top_at _ _ _ _ _ c.requires.at in
+    record { fit = (next_is _ _ _ c.linked-block.ensures.ranked th _ (levels_are c.args.which (on_top (at_next c.linked-block.result.now.next)) _ _ c.go_next.ensures refl ∙ ap (λ x. on_top (at_next x.next) (levels_at c.args.which c.args.threads.now)) (cached_is _ _ _ c.linked-block.ensures.ranked th _ c.linked-block.ensures.block))).0 }
+
+pub is_recursive-recursive-requires : goal.is_recursive-recursive-requires
+is_recursive-recursive-requires c = record { under = top_stacked _ _ _ c.linked-block.ensures.ranked (top_at _ _ _ _ _ c.requires.at) }
 
 pub returns-in-None-clause-at : goal.returns-in-None-clause-at
 returns-in-None-clause-at c =
     let ranked = c.linked-block.ensures.ranked in
-    let th = c.requires.top in
+    let th = top_at _ _ _ _ _ c.requires.at in
     let b = cached_is _ _ _ ranked th _ c.linked-block.ensures.block in
     let calls = cached _ _ _ ranked th (λ x. is_calls (kind x.op) ≡ true) _ c.linked-block.ensures.block c.requires.calls in
     let none : procedure c.args.target (call_code th.block.mutation) (program_of c.args.project.now) ≡ None =
     ap (λ t. procedure c.args.target t (program_of c.args.project.now)) (sym (c.as_str.ensures ∙ ap (λ x. x.code) b)) ∙ sym c.callee.ensures.procedure ∙ ap (option_map (λ d. procedure_in (sheet_at c.args.target c.args.project.now) (callee_in d))) c.in-None.is in
-    told _ _ _ ranked th (λ s rest. entered_some (called (program_of c.args.project.now) s) c.args.late (warp_flag c.args.levels.now) s rest c.args.params) _ _
+    let next = levels_are c.args.which (on_top (at_next c.linked-block.result.now.next)) _ _ c.go_next.ensures refl ∙ ap (λ x. on_top (at_next x.next) (levels_at c.args.which c.args.threads.now)) b in
+    subst (MovesOn c.args.project.now c.args.which c.args.target c.args.id (λ s rest warp. entered_some (called (program_of c.args.project.now) s) c.args.late warp s rest c.args.params) c.args.threads.now c.report_of.new.threads) (sym c.report_of.ensures.same)
+    (moves_on _ _ _ _ _ c.requires.at _ _ c.settle-report.result
+    (only_then c.args.which _ _ _ (only_on c.args.which (on_top (at_next c.linked-block.result.now.next)) _ _ c.go_next.ensures) c.settle-report.ensures.only)
+    c.report_of.ensures.status (λ s rest warp. entered_some (called (program_of c.args.project.now) s) c.args.late warp s rest c.args.params)
+    (told _ _ _ ranked th (λ s rest. entered_some (called (program_of c.args.project.now) s) c.args.late (warp_flag (levels_at c.args.which c.args.threads.now)) s rest c.args.params) _ _
     (enters c.args.project.now c.args.target _ _ ranked th calls None _ _ _ _ none
-    (IsAt-move _ _ _ _ _ _ (sym (next_is _ _ _ ranked th _ (c.go_next.ensures ∙ ap (λ x. on_top (at_next x.next) c.args.levels.now) b)).1) refl c.settle.ensures.at))
+    (IsAt-move _ _ _ _ _ _ (sym (next_is _ _ _ ranked th _ next).1) refl c.settle-report.ensures.at))))
 
-pub returns-in_ok-push-in-Some-clause-at : goal.returns-in_ok-push-in-Some-clause-at
-returns-in_ok-push-in-Some-clause-at c =
+pub returns-in-Ok-clause-at : goal.returns-in-Ok-clause-at
+returns-in-Ok-clause-at c =
     let ranked = c.linked-block.ensures.ranked in
-    let th = c.requires.top in
+    let th = top_at _ _ _ _ _ c.requires.at in
     let b = cached_is _ _ _ ranked th _ c.linked-block.ensures.block in
     let sheet = sheet_at c.args.target c.args.project.now in
     let calls = cached _ _ _ ranked th (λ x. is_calls (kind x.op) ≡ true) _ c.linked-block.ensures.block c.requires.calls in
@@ -44,8 +62,18 @@ returns-in_ok-push-in-Some-clause-at c =
     let some : procedure c.args.target (call_code th.block.mutation) (program_of c.args.project.now) ≡ Some q =
     ap (λ t. procedure c.args.target t (program_of c.args.project.now)) (sym (c.as_str.ensures ∙ ap (λ x. x.code) b)) ∙ sym c.callee.ensures.procedure ∙ ap (option_map (λ d. procedure_in sheet (callee_in d))) c.in-Some.is in
     let w_is : c.if-warp.push ≡ (c.is_warp-warp.result || q.warp) = elim c.if-warp.branch [ then-warp w ↦ grind arith | else-warp w ↦ grind arith ] in
-    told _ _ _ ranked th (λ s rest. entered_some (called (program_of c.args.project.now) s) c.args.late (warp_flag c.args.levels.now) s rest c.args.params) _ _
+    subst (MovesOn c.args.project.now c.args.which c.args.target c.args.id (λ s rest warp. entered_some (called (program_of c.args.project.now) s) c.args.late warp s rest c.args.params) c.args.threads.now c.report_of-in-Some.new.threads) (sym c.report_of-in-Some.ensures.same)
+    (moves_on _ _ _ _ _ c.requires.at _ _ c.call_report-report.result
+    (only_three _ _ _ _ _ c.requires.at (with_context Called) (with_params c.args.params) _ _ c.set_context.ensures c.set_params.ensures _ _ c.in-Ok.ensures.ok)
+    c.report_of-in-Some.ensures.status (λ s rest warp. entered_some (called (program_of c.args.project.now) s) c.args.late warp s rest c.args.params)
+    (told _ _ _ ranked th (λ s rest. entered_some (called (program_of c.args.project.now) s) c.args.late (warp_flag (levels_at c.args.which c.args.threads.now)) s rest c.args.params) _ _
     (enters c.args.project.now c.args.target _ _ ranked th calls (Some q) _ _ _ _ some
     (call_is c.args.project.now c.args.target _ _ ranked th calls q c.in-Some.callee.definition _ c.args.params c.is_warp-warp.result c.if-warp.push _ c.args.late _ refl (c.in-Some.ensures.member) c.is_warp-warp.ensures w_is
-    (c.is_recursive-recursive.ensures ∙ ap (λ t. machine.is_recursive t 6 (pending sheet c.args.levels.now)) c.as_str-code.ensures) c.call_report.ensures.report c.call_report.ensures.goes_on
-    (c.in_ok-push-in-Some.ensures.ok ∙ ap (λ l. new_level (Some c.in-Some.callee.definition) c.if-warp.push ∷ l) (c.set_params.ensures ∙ ap (on_top (with_params c.args.params)) c.set_context.ensures))))
+    (c.is_recursive-recursive.ensures ∙ ap (λ t. machine.is_recursive t 6 (pending sheet (levels_at c.args.which c.args.threads.now))) c.as_str-code.ensures) c.call_report-report.ensures.report c.call_report-report.ensures.goes_on
+    (levels_three _ _ _ _ _ c.requires.at (with_context Called) (with_params c.args.params) _ _ c.set_context.ensures c.set_params.ensures _ _ c.in-Ok.ensures.ok)))))
+
+pub returns-in-Err-clause-stop : goal.returns-in-Err-clause-stop
+returns-in-Err-clause-stop c = stops_two _ _ _ _ _ c.requires.at (with_context Called) (with_params c.args.params) _ _ c.set_context.ensures c.set_params.ensures (Unit {0}) Report c.in-Err.stop _ _ c.in-Err.ensures.stop
+
+pub returns-then-levels-ge-MOST_LEVELS-clause-stop : goal.returns-then-levels-ge-MOST_LEVELS-clause-stop
+returns-then-levels-ge-MOST_LEVELS-clause-stop c = no_room (open_levels frames c.args.threads.now) c.args.threads.now (omega (arith, c.levels.ensures.open, c.if-levels-ge-MOST_LEVELS.true))

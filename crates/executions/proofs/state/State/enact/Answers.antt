@@ -1,7 +1,6 @@
 -- A choice that was made is one of the arguments.
 use Rattle.std.proofs.Common.{Ok, rules}
 use Rattle.machine_spec.specs.declared.threads.Control.TheVariants.{Next}
-use Rattle.executions.specs.Runners.{with_runner}
 use Rattle.executions.proofs.Enacting.{one_ok}
 use Rattle.executions.proofs.Rowing.{chosen_so}
 use Rattle.executions.proofs.state.State.enact.Goals as goal
@@ -15,5 +14,5 @@ returns-in-Some-Enter g c = record {
 
 pub returns-in-Some-Pass : goal.returns-in-Some-Pass
 returns-in-Some-Pass g c =
-    chosen_so g.R.Rng.stream c.args.project.now c.args.slot c.args.id c.args.late c.cached-block.result.now.op Next (with_runner c.args.runner.now c.args.self.now)
-    (Ok c.pass_chosen.result) c.pass_chosen.new.runner c.pass_chosen.new.self c.args.args.now (search rules) c.pass_chosen.ensures
+    chosen_so g.R.Rng.stream c.args.project.now c.args.slot c.args.id c.args.late c.cached-block.result.now.op Next c.args.self.now
+    (Ok c.pass_chosen.result) c.args.runner.now c.pass_chosen.new.self c.args.args.now (search rules) c.pass_chosen.ensures

@@ -3,7 +3,6 @@ use Rattle.std.proofs.Common.{rules, [], ◌∷◌, Ok}
 use Rattle.scratch_values.specs.Args.{arguments}
 use Rattle.scratch_values.specs.Held.{pair_of}
 use Rattle.machine_spec.specs.declared.threads.Control.TheVariants.{Next}
-use Rattle.executions.specs.Runners.{with_runner}
 use Rattle.executions.proofs.Enacting.{one_ok}
 use Rattle.executions.proofs.Rowing.{chosen_so}
 use Rattle.executions.proofs.state.State.enact_by.Goals as goal
@@ -23,5 +22,5 @@ returns-in-Some-Enter g c = record {
 
 pub returns-in-Some-Pass : goal.returns-in-Some-Pass
 returns-in-Some-Pass g c =
-    chosen_so g.R.Rng.stream c.args.project.now c.args.slot c.args.id c.args.late c.args.block.now.op Next (with_runner c.args.runner.now c.args.self.now)
-    (Ok c.pass_chosen.result) c.pass_chosen.new.runner c.pass_chosen.new.self (arguments (pair_of c.args.first ∷ []) c.args.block.now.fields) (search rules) c.pass_chosen.ensures
+    chosen_so g.R.Rng.stream c.args.project.now c.args.slot c.args.id c.args.late c.args.block.now.op Next c.args.self.now
+    (Ok c.pass_chosen.result) c.args.runner.now c.pass_chosen.new.self (arguments (pair_of c.args.first ∷ []) c.args.block.now.fields) (search rules) c.pass_chosen.ensures

@@ -28,7 +28,7 @@ returns-then-matches g c =
     executes_so g.R.Rng.stream c.args.project.now c.args.slot c.args.id c.args.late (arguments (pair_of c.in-Ok.first ∷ []) c.args.block.now.fields) c.args.runner.now c.args.self.now c.requires.at _ c.params-near.ensures c.only_input.new.words
     (λ s rest e. of_ok c.only_input.result _ c.in-Ok.first c.in-Ok.is c.only_input.ensures.ok s rest e
     ∙ ap (λ a. Goes (record { value = a; words = seen_words g.R.Rng.stream c.only_input.new.words })) (sole_arguments c.in-Ok.first (sheets c.args.project.now c.args.runner.now.target) c.args.id c.args.block.now c.requires.block c.args.block.now.fields refl (arguments (pair_of c.in-Ok.first ∷ []) c.args.block.now.fields) refl))
-    c.enact_data_one.result c.enact_data_one.new.runner c.enact_data_one.new.self c.enact_data_one.ensures
+    c.enact_data_one.result c.args.runner.now c.enact_data_one.new.self c.enact_data_one.ensures
 
 pub returns-else-matches : goal.returns-else-matches
 returns-else-matches g c =

@@ -1,7 +1,7 @@
 -- The block of the top level is one of the target's.
-use Rattle.std.proofs.Common.{rules}
+use Rattle.std.proofs.Common.{sym, ◌∙◌}
 use Rattle.executions.proofs.Runs.{runs_at}
 use Rattle.executions.proofs.state.State.step.Goals as goal
 
 pub execute-requires : goal.execute-requires
-execute-requires g c = runs_at c.args.project.now c.args.slot c.in-Some.id c.args.runner.now c.args.self.now c.requires (search rules)
+execute-requires g c = runs_at c.args.project.now c.args.slot c.in-Some.id c.args.runner.now c.args.self.now c.requires (sym c.block_of.ensures ∙ c.in-Some.is)
