@@ -16,7 +16,7 @@ ghost use Rattle.control_blocks.specs.Afresh.{acts_alone};
 ghost use Rattle.block_arguments.specs.Afresh.{was_afresh};
 ghost use Rattle.speech_bubbles.specs.Stops.{IsOfBubblesOrMemory};
 
-use crate::{loops, messages, procedures, questions, stopping, waiting};
+use crate::{clones, loops, messages, procedures, questions, waits};
 use cached_blocks::CachedBlock;
 use devices::Devices;
 use machine_spec::{Context, Control, InstanceId, Serial};

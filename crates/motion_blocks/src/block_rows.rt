@@ -15,7 +15,7 @@ ghost use Rattle.targets.specs.Live.{IsSameCast};
 ghost use Rattle.motion_blocks.specs.Blocks.{leaves, parts_of};
 ghost use Rattle.block_arguments.specs.Stops.{IsOfWordsOrMemory};
 
-use crate::{gliding, going, own, pointing, steps, turns};
+use crate::{destinations, glide_steps, headings, instance, steps, turns};
 use devices::Devices;
 use machine_spec::{Context, Control, InstanceId};
 use opcode_table::Opcode;

@@ -9,7 +9,7 @@ ghost use Rattle.project_spec.specs.RuleNames.{project_rule};
 ghost use Rattle.report_command.specs.Lines.{line};
 ghost use Rattle.report_command.specs.Text.{accepted_text, block_place, opcode_place, place, rule_line, place_line, advice_lines, refusal_text};
 
-use crate::advice::{change, project_rule, why};
+use crate::advice::{change, why};
 use crate::counts::Counts;
 use crate::pieces::{push_natural, push_text};
 use crate::places::{block_at, id_of, kind_of, name_of, opcode_of, target_at};
