@@ -1,5 +1,5 @@
 -- Blocks that choose where their thread goes keep nothing, and their rows change nothing.
-use Rattle.std.proofs.Common.{◌≡◌, ℕ, Bool, true, false, [], ◌∷◌, Some, Err, refl, ap, ◌∙◌, subst}
+use Rattle.std.proofs.Common.{◌≡◌, ℕ, Bool, true, false, [], ◌∷◌, Some, Err, refl, ap, ◌∙◌, subst, sym}
 use Rattle.std.specs.Prelude.{◌||◌, ◌&&◌, codes, nat_lt, not, if◌then◌else◌}
 use Rattle.rand_core.specs.Stream.{Stream}
 use Rattle.opcode_table.specs.declared.kinds.Kind.TheVariants.{Endless, Plain}

@@ -1,7 +1,13 @@
 -- A runner, and the thread that it tells of.
-use Rattle.std.proofs.Common.{◌≡◌, ℕ, ◌<◌, Bool, true, false, List, length, Option, Some, None, refl, sym, ap, ◌∙◌, subst, arith}
+use Rattle.std.proofs.Common.{◌≡◌, ℕ, ◌<◌, Bool, true, false, List, [], length, Option, Some, None, refl, sym, ap, ◌∙◌, subst, arith}
 use Rattle.std.specs.Prelude.{slice_get, unwrap_or}
 use Rattle.std.proofs.lemmas.Option.{slice_get_within}
+use Rattle.rand_core.specs.Stream.{Stream}
+use Rattle.machine_spec.specs.Outcome.{Outcome}
+use Rattle.machine_spec.specs.Step.{Moment}
+use Rattle.machine_spec.specs.Tasks.{Task}
+use Rattle.machine_spec.specs.World.{World}
+use Rattle.machine_spec.specs.declared.threads.Control.{Control}
 use Rattle.machine_spec.specs.declared.threads.Report.{Report}
 use Rattle.machine_spec.specs.declared.threads.Which.{Which}
 use Rattle.machine_spec.specs.Places.{Places, at_place, place, running}
@@ -17,6 +23,7 @@ use Rattle.executions.specs.declared.state.State.{State}
 use Rattle.executions.specs.declared.execution.Next.{Next}
 use Rattle.executions.specs.Nexts.{next_by, next_of}
 use Rattle.executions.specs.Ready.{IsReady, IsReadyUnless, IsAfter}
+use Rattle.executions.specs.Rows.{Acts}
 use Rattle.executions.specs.Runners.{IsWho, IsRunner, IsRunnerUnless, IsRunnerAfter, RunsAt, next_block}
 use Rattle.executions.specs.Seen.{sheets}
 use Rattle.executions.proofs.Taking.{holds_by}
@@ -70,3 +77,14 @@ again_after p i report r w e runs = subst (λ b. IsRunnerUnless b p i r w) (sym 
 
 pub gone_after : {R : Type 0} (p : Project) (i : ℕ) (report : Report) (r : Runner) (w : State R) → is_ended report ≡ true → IsAfter p i report w → IsRunnerAfter p i report r w
 gone_after p i report r w e after = subst (λ b. IsRunnerUnless b p i r w) (sym e) (subst (λ b. IsReadyUnless b p i w) e after)
+
+-- what it executes next is block k
+pub acts_next : {R : Type 0} (stream : R → Stream) (p : Project) (i k : ℕ) (late : Bool) (control : Control) (r : Runner) (w : State R) (n : Next) → n ≡ next_block r k → (P : Outcome (Moment (World Task)) → Type 0)
+    → Acts stream p i n.id late control w P → Acts stream p i k late control w P
+acts_next stream p i k late control r w n same P acts = subst (λ j. Acts stream p i j late control w P) (ap (λ (x : Next). x.id) same) acts
+
+-- the thread that stands where the running one does
+pub runner_is : {R : Type 0} (p : Project) (i : ℕ) (w : State R) (ready : IsReady p i w) (which : Which) → which ≡ place i w.threads → (t : Thread) → Some t ≡ at_place which w.threads → (r : Runner) → r.which ≡ which → IsWho r t → IsRunner p i r w
+runner_is p i w ready which at t found r there who =
+    let same : t ≡ ready.thread = cc (found ∙ ap (λ z. at_place z w.threads) at ∙ ready.found) in
+    record { ready = ready; place_is = there ∙ at; who = subst (IsWho r) same who }
