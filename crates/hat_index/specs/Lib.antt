@@ -1,0 +1,4 @@
+pub mod Starts
+pub mod Hats
+pub mod Index
+pub mod ByIndex
