@@ -60,7 +60,7 @@ exit_of_status NoMemory = 9
 -- a name, and what stands behind it
 abbrev pub told_text : List ℕ → Detail → List ℕ
 told_text name Nothing = name
-told_text name (Rule rule) = name ++ rule
+told_text name (Rule rule) = name ++ rule.now
 told_text name (Line line) = name ++ decimal line
 
 -- want of memory stands in no other status

@@ -70,7 +70,7 @@ pub enum Detail {
 
 // What tells a refused line: the name with the number of the refusal and a space, before the line's number.
 fn told_line(refusal: &LineRefusal) -> (&'static str, Detail)
-    ensures { told_text result.0.now result.1.now ≡ text_of_line refusal.now }
+    ensures { told_text result.0.now result.1 ≡ text_of_line refusal.now }
 {
     match refusal {
         LineRefusal::NotUtf8 { line } => ("BadScript 1 ", Detail::Line(*line)),
@@ -84,7 +84,7 @@ fn told_line(refusal: &LineRefusal) -> (&'static str, Detail)
 
 // What tells a refused project or saved run: the name of the status, before the rule.
 fn told_rule(name: &'static str, rule: Option<&'static str>) -> (&'static str, Detail)
-    ensures { told_text result.0.now result.1.now ≡ text_of_rule name.now (option_map (λ rule. rule.now) rule) }
+    ensures { told_text result.0.now result.1 ≡ text_of_rule name.now (option_map (λ rule. rule.now) rule) }
 {
     match rule {
         Some(rule) => (name, Detail::Rule(rule)),
@@ -95,7 +95,7 @@ fn told_rule(name: &'static str, rule: Option<&'static str>) -> (&'static str, D
 /// What tells a status: its name, after a refused project or saved run the rule that is broken, and after a refused line, whose
 /// name has the number of the refusal, the number of the line.
 pub fn told(status: &Status) -> (&'static str, Detail)
-    ensures { told_text result.0.now result.1.now ≡ text_of_status status.now }
+    ensures { told_text result.0.now result.1 ≡ text_of_status status.now }
 {
     match status {
         Status::Done => ("Done", Detail::Nothing),
