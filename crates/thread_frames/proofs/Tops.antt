@@ -1,26 +1,104 @@
--- A write to the last element of a list is a write to the first of its reverse.
-use Rattle.std.proofs.Common.{◌≡◌, ℕ, ◌+◌, ◌-◌, ◌<◌, List, [], ◌∷◌, ◌++◌, length, reverse, take, set, get_or, sym, ap, ◌∙◌, arith, length-set}
-use Rattle.std.proofs.lemmas.List.{take_more, take_more_set, reverse-append, take_all}
-use Rattle.std.specs.Prelude.{Vec, vec_len}
-use Rattle.std.specs.Global.{Global}
-use Rattle.std.specs.Vec.{with_item}
-use Rattle.thread_frames.specs.Levels.{on_top}
-use Rattle.thread_frames.specs.declared.level.Level.{Level}
+-- The levels of a thread in the pool, where they are changed.
+use Rattle.std.proofs.Common.{◌≡◌, ℕ, zero, suc, ◌+◌, ◌-◌, ◌<◌, ◌≤◌, List, [], ◌∷◌, ◌++◌, length, Option, Some, None, slice_get, refl, sym, ap, ap₂, subst, ◌∙◌, arith}
+use Rattle.std.specs.Prelude.{nat_lt}
+use Rattle.std.proofs.lemmas.Bool.Decides.{nat_tests}
+use Rattle.shared_stacks.specs.declared.stack.Stack.{Stack}
+use Rattle.shared_stacks.specs.declared.pool.Pool.{Pool}
+use Rattle.shared_stacks.specs.Chains.{IsIn, Moves, values, values_from, used}
+use Rattle.shared_stacks.specs.Lending.{with_top}
+use Rattle.shared_stacks.specs.Shared.{Stand}
+use Rattle.shared_stacks.proofs.Chains.{Moves-with_top, values-with_top, length-values}
+use Rattle.machine_spec.specs.declared.threads.Which.{Which}
+use Rattle.machine_spec.specs.Outcome.{most_levels}
+use Rattle.machine_spec.specs.Places.{Places, at_place, put, on_place, put_some}
+use Rattle.thread_frames.specs.Levels.{Level, on_top, without_top, top_context}
+use Rattle.thread_frames.specs.Threads.{Thread, on_levels, levels_of}
+use Rattle.thread_frames.specs.Entries.{Entry, seen, seen_all, entry_with, stacks_of, stack_of}
+use Rattle.thread_frames.specs.Keeping.{IsKept}
+use Rattle.thread_frames.specs.declared.hat_index.HatIndex.{HatIndex}
+use Rattle.thread_frames.proofs.Maps.{put_same}
+use Rattle.thread_frames.proofs.Kept.{kept_moved, is_in, is_in_any}
+use Rattle.thread_frames.proofs.Views.{view_moved, view_none, there, levels_seen}
 
-last_of : (xs : List Level) (n : ℕ) (x : Level) → length xs ≡ n + 1 → x ≡ get_or xs n x → take n xs ++ x ∷ [] ≡ xs
-last_of xs n x h e = grind (arith, take_more xs n x, take_all (n + 1) xs)
+pub left_over : (d : ℕ) → nat_lt 0 (d - 1) ≡ nat_lt 1 d
+left_over d = grind (arith, nat_tests)
 
-set_last : (xs : List Level) (n : ℕ) (v : Level) → length xs ≡ n + 1 → set xs n v ≡ take n xs ++ v ∷ []
-set_last xs n v h = grind (arith, take_more_set xs n v, take_all (n + 1) (set xs n v), length-set xs n v)
+-- what the block of the top level keeps
+pub top_context-first : (ls : List Level) (l : Level) → slice_get ls 0 ≡ Some l → l.context ≡ top_context ls
+top_context-first [] l first = absurd (cc)
+top_context-first (x ∷ xs) l first = let e : x ≡ l = cc in ap (λ (y : Level). y.context) (sym e)
 
-changed : (f : Level → Level) (xs ys : List Level) (n : ℕ) (x : Level) → length xs ≡ n + 1 → x ≡ get_or xs n x → reverse xs ≡ ys → reverse (set xs n (f x)) ≡ on_top f ys
-changed f xs ys n x h e r =
-    let s = set_last xs n (f x) h in
-    let a : reverse (set xs n (f x)) ≡ f x ∷ reverse (take n xs) = ap reverse s ∙ reverse-append (take n xs) (f x ∷ []) in
-    let b : x ∷ reverse (take n xs) ≡ reverse xs = sym (reverse-append (take n xs) (x ∷ [])) ∙ ap reverse (last_of xs n x h e) in
-    a ∙ ap (on_top f) (b ∙ r)
+pub values-none : (p : Pool Level) (s : Stack) → s.depth ≡ 0 → values p s ≡ []
+values-none p s none = ap (λ n. values_from p n s.top) none
 
--- the same of a vector that is read from its end
-pub top_changed : (f : Level → Level) (v : Vec Level Global) (ys : List Level) (n : ℕ) (x y : Level) → n ≡ vec_len v → 0 < n → x ≡ get_or v.items (n - 1) x → y ≡ f x → reverse v.items ≡ ys → reverse (with_item v (n - 1) y).items ≡ on_top f ys
-top_changed f v ys n x y h above e is r =
-    ap (λ z. reverse (set v.items (n - 1) z)) is ∙ changed f v.items ys (n - 1) x (omega (arith, v.ok.0)) e r
+-- the stack of a thread became another, which has its levels changed so
+pub view_levels : (p q : Pool Level) (g : List Level → List Level) (which : Which) (e : Entry) (t : Stack) (ts : Places Entry) (vs : Places Thread) → seen_all p ts ≡ vs → Stand most_levels p (stacks_of ts)
+    → at_place which ts ≡ Some e → Moves p q e.stack t → values q t ≡ g (values p e.stack) → seen_all q (put which (record { thread = e.thread; stack = t }) ts) ≡ on_place (on_levels g) which vs
+view_levels p q g which e t ts vs view stand found moves is =
+    view_moved p q (on_levels g) which e (record { thread = e.thread; stack = t }) ts vs view stand found moves (ap (entry_with e) is)
+
+module _ (p : Pool Level) where
+  -- a change that makes no levels of none changes no thread without levels
+  empty_by : (g : List Level → List Level) → g [] ≡ [] → (which : Which) (ts : Places Entry) (vs : Places Thread) → seen_all p ts ≡ vs → (o : Option Entry) → at_place which ts ≡ o → (stack_of o).depth ≡ 0
+      → vs ≡ on_place (on_levels g) which vs
+  empty_by g none which ts vs view None found empty = view_none p (on_levels g) which ts vs view found
+  empty_by g none which ts vs view (Some e) found empty =
+      let no_levels : values p e.stack ≡ [] = values-none p e.stack empty in
+      let at = there p which e ts vs view found in
+      sym (put_same which (seen p e) vs at)
+      ∙ ap (λ levels. put which (entry_with e levels) vs) (no_levels ∙ sym none ∙ ap g (sym no_levels))
+      ∙ sym (ap (λ o. put_some o (on_levels g) which vs) at)
+
+  pub view_empty : (g : List Level → List Level) → g [] ≡ [] → (which : Which) (ts : Places Entry) (vs : Places Thread) → seen_all p ts ≡ vs → (stack_of (at_place which ts)).depth ≡ 0 → vs ≡ on_place (on_levels g) which vs
+  view_empty g none which ts vs view empty = empty_by g none which ts vs view (at_place which ts) refl empty
+
+  -- The top level is another one
+
+  on_top-is : (f : Level → Level) (l : Level) (ls : List Level) → slice_get ls 0 ≡ Some l → f l ∷ without_top ls ≡ on_top f ls
+  on_top-is f l [] first = absurd (cc)
+  on_top-is f l (x ∷ xs) first = let e : x ≡ l = cc in ap (λ y. f y ∷ xs) (sym e)
+
+  kept_by : (index : HatIndex) (which : Which) (ts : Places Entry) (v : Level) → IsKept p index ts → (o : Option Entry) → at_place which ts ≡ o → 0 < (stack_of o).depth → IsKept (with_top p (stack_of o) v) index ts
+  kept_by index which ts v k None found some = absurd (omega (arith, some))
+  kept_by index which ts v k (Some e) found some =
+      let is = is_in p which e ts k.stand found in
+      let moves = Moves-with_top p e.stack v is some in
+      subst (IsKept (with_top p e.stack v) index) (put_same which e ts found)
+      (kept_moved p (with_top p e.stack v) index which e e ts k found moves (omega (arith, moves.count, k.stand.few)) refl)
+
+  pub kept_top : (index : HatIndex) (which : Which) (ts : Places Entry) (s : Stack) (v : Level) → s ≡ stack_of (at_place which ts) → IsKept p index ts → 0 < s.depth → IsKept (with_top p s v) index ts
+  kept_top index which ts s v same k some = rw same (kept_by index which ts v k (at_place which ts) refl (omega (arith, some, ap (λ (x : Stack). x.depth) same)))
+
+  view_by : (f : Level → Level) (l v : Level) (which : Which) (ts : Places Entry) (vs : Places Thread) → seen_all p ts ≡ vs → Stand most_levels p (stacks_of ts) → (o : Option Entry) → at_place which ts ≡ o → 0 < (stack_of o).depth
+      → slice_get (values p (stack_of o)) 0 ≡ Some l → v ≡ f l → seen_all (with_top p (stack_of o) v) ts ≡ on_place (on_levels (on_top f)) which vs
+  view_by f l v which ts vs view stand None found some first is = absurd (omega (arith, some))
+  view_by f l v which ts vs view stand (Some e) found some first is =
+      let inside = is_in p which e ts stand found in
+      let moves = Moves-with_top p e.stack v inside some in
+      let now : values (with_top p e.stack v) e.stack ≡ on_top f (values p e.stack) =
+      values-with_top p e.stack v inside some ∙ ap (λ x. x ∷ without_top (values p e.stack)) is ∙ on_top-is f l (values p e.stack) first in
+      sym (ap (seen_all (with_top p e.stack v)) (put_same which e ts found))
+      ∙ view_levels p (with_top p e.stack v) (on_top f) which e e.stack ts vs view stand found moves now
+
+  pub view_top : (f : Level → Level) (l v : Level) (which : Which) (ts : Places Entry) (vs : Places Thread) (s : Stack) → s ≡ stack_of (at_place which ts) → seen_all p ts ≡ vs → Stand most_levels p (stacks_of ts) → 0 < s.depth
+      → slice_get (values p s) 0 ≡ Some l → v ≡ f l → seen_all (with_top p s v) ts ≡ on_place (on_levels (on_top f)) which vs
+  view_top f l v which ts vs s same view stand some first is =
+      rw same (view_by f l v which ts vs view stand (at_place which ts) refl (omega (arith, some, ap (λ (x : Stack). x.depth) same)) (ap (λ x. slice_get (values p x) 0) (sym same) ∙ first) is)
+
+  -- Its stack is read
+
+  pub read_in : (which : Which) (ts : Places Entry) (s : Stack) → s ≡ stack_of (at_place which ts) → Stand most_levels p (stacks_of ts) → IsIn p s
+  read_in which ts s same stand = rw same (is_in_any p which ts stand)
+
+  pub read_levels : (which : Which) (ts : Places Entry) (vs : Places Thread) (s : Stack) → s ≡ stack_of (at_place which ts) → seen_all p ts ≡ vs → values p s ≡ levels_of (at_place which vs)
+  read_levels which ts vs s same view = ap (values p) same ∙ sym (levels_seen p which ts vs view)
+
+  pub read_depth : (which : Which) (ts : Places Entry) (vs : Places Thread) (s : Stack) → s ≡ stack_of (at_place which ts) → seen_all p ts ≡ vs → Stand most_levels p (stacks_of ts) → s.depth ≡ length (levels_of (at_place which vs))
+  read_depth which ts vs s same view stand = sym (length-values p s (read_in which ts s same stand)) ∙ ap length (read_levels which ts vs s same view)
+
+  pub read_empty : (g : List Level → List Level) → g [] ≡ [] → (which : Which) (ts : Places Entry) (vs : Places Thread) (s : Stack) → s ≡ stack_of (at_place which ts) → seen_all p ts ≡ vs → s.depth ≡ 0 → vs ≡ on_place (on_levels g) which vs
+  read_empty g none which ts vs s same view empty = view_empty g none which ts vs view (ap (λ (x : Stack). x.depth) (sym same) ∙ empty)
+
+  -- an entry's own depth
+  pub entry_depth : (which : Which) (e : Entry) (ts : Places Entry) (vs : Places Thread) → seen_all p ts ≡ vs → Stand most_levels p (stacks_of ts) → at_place which ts ≡ Some e → length (levels_of (at_place which vs)) ≡ e.stack.depth
+  entry_depth which e ts vs view stand found = ap (λ o. length (levels_of o)) (there p which e ts vs view found) ∙ length-values p e.stack (is_in p which e ts stand found)

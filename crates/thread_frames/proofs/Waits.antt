@@ -10,7 +10,12 @@ use Rattle.machine_spec.specs.declared.threads.Control.TheVariants.{Next, Yield,
 use Rattle.machine_spec.specs.declared.threads.Status.{Status}
 use Rattle.machine_spec.specs.declared.threads.Status.TheVariants.{Running}
 use Rattle.machine_spec.specs.Threads.{Listed, among, is_running, wait_for}
-use Rattle.thread_frames.specs.Threads.{Thread}
+use Rattle.machine_spec.specs.Places.{Places}
+use Rattle.shared_stacks.specs.declared.pool.Pool.{Pool}
+use Rattle.thread_frames.specs.Levels.{Level}
+use Rattle.thread_frames.specs.Threads.{Thread, listed}
+use Rattle.thread_frames.specs.Entries.{Entry, seen, seen_all}
+use Rattle.thread_frames.proofs.Maps.{find-map}
 
 shown : Thread → Listed
 shown t = record { serial = t.serial; status = t.status }
@@ -23,6 +28,19 @@ found_by false t o p e = e
 pub find-listed : (n : ℕ) (ts : List Thread) → option_map (λ (x : Listed). x.status) (find (λ x. x.serial == n) (map (λ (t : Thread). record { serial = t.serial; status = t.status }) ts)) ≡ option_map (λ (t : Thread). t.status) (find (λ t. t.serial == n) ts)
 find-listed n [] = refl
 find-listed n (t ∷ ts) = found_by (t.serial == n) t _ (find (λ x. x.serial == n) ts) (find-listed n ts)
+
+-- how the first thread with the number stands, as entries tell
+map_map : (o : Option Entry) (p : Pool Level) → option_map (λ (t : Thread). t.status) (option_map (seen p) o) ≡ option_map (λ (e : Entry). e.thread.status) o
+map_map None p = refl
+map_map (Some e) p = refl
+
+pub status_by_entries : (p : Pool Level) (n : ℕ) (ts : Places Entry) (vs : Places Thread) → seen_all p ts ≡ vs
+    → option_map (λ (e : Entry). e.thread.status) (find (λ e. e.thread.serial == n) ts.list) ≡ option_map (λ (x : Listed). x.status) (find (λ x. x.serial == n) (listed vs))
+status_by_entries p n ts vs view =
+    sym (map_map (find (λ e. e.thread.serial == n) ts.list) p)
+    ∙ ap (option_map (λ (t : Thread). t.status)) (sym (find-map (seen p) (λ t. t.serial == n) ts.list))
+    ∙ ap (λ (ws : Places Thread). option_map (λ (t : Thread). t.status) (find (λ t. t.serial == n) ws.list)) view
+    ∙ sym (find-listed n vs.list)
 
 -- what is known so far, and the threads that are left to look at
 

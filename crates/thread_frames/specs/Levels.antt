@@ -1,5 +1,6 @@
 -- The levels of a thread, the top one first, and what is done with them (scratch-vm, engine/thread.js, its stack).
 pub use Rattle.thread_frames.specs.declared.level.Level.{Level}
+pub use Rattle.shared_stacks.specs.Chains.{without_top}
 use Rattle.std.specs.Prelude.{ℕ, Bool, false, if◌then◌else◌, List, [], ◌∷◌, Option, Some, None}
 use Rattle.machine_spec.specs.declared.threads.Context.{Context}
 use Rattle.machine_spec.specs.declared.threads.Context.TheVariants.{Fresh}
@@ -27,10 +28,6 @@ with_params params l = record l { params = Some params }
 abbrev pub on_top : (Level → Level) → List Level → List Level
 on_top f [] = []
 on_top f (top ∷ under) = f top ∷ under
-
-abbrev pub without_top : List Level → List Level
-without_top [] = []
-without_top (top ∷ under) = under
 
 -- the levels from the nearest one, from the top, that has called
 abbrev pub from_call : List Level → List Level

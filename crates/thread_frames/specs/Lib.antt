@@ -2,8 +2,9 @@ pub mod Fit
 pub mod Levels
 pub mod Reading
 pub mod Threads
+pub mod Entries
+pub mod Keeping
 pub mod Lending
-pub mod Counting
 pub mod Stops
 pub mod Restarting
 pub mod Rebuilding

@@ -1,4 +1,5 @@
 -- The threads of a run as contracts see them, whatever keeps their levels.
+pub use Rattle.thread_frames.specs.declared.thread.Thread.{Thread as Bare}
 use Rattle.std.specs.Prelude.{ℕ, ◌==◌, ◌&&◌, Bool, List, [], ◌∷◌, length, map, filter, not, false, Option, Some, None}
 use Rattle.machine_spec.specs.Script.{Script, End, Then, place_of}
 use Rattle.machine_spec.specs.Program.{Head, hat_block}
@@ -17,6 +18,17 @@ pub record Thread : Type 0 where
   pub hat : ℕ
   pub status : Status
   pub levels : List Level
+
+-- a thread without its levels, and with these
+abbrev pub bare : Thread → Bare
+bare t = record { serial = t.serial; of = t.of; target = t.target; hat = t.hat; status = t.status }
+
+abbrev pub with_levels : Bare → List Level → Thread
+with_levels t levels = record { serial = t.serial; of = t.of; target = t.target; hat = t.hat; status = t.status; levels = levels }
+
+-- a new thread, whose level is not yet open
+abbrev pub new_bare : (serial of target hat : ℕ) → Bare
+new_bare serial of target hat = record { serial = serial; of = of; target = target; hat = hat; status = Running }
 
 -- a new thread has one level, which is not warp
 abbrev pub new_thread : (serial of target hat : ℕ) → (first : Option ℕ) → Thread

@@ -1,10 +1,10 @@
 //! Where the first thread of each hat stands.
 
 ghost use Rattle.std.specs.Prelude.{◌≡◌, ◌∷◌, ◌++◌, [], List, length, true, false, position};
-ghost use Rattle.thread_frames.specs.Threads.{Thread as Seen, is_of};
-ghost use Rattle.thread_frames.specs.Indexing.{AreFirst, Notes};
+ghost use Rattle.thread_frames.specs.declared.hat_index.Key.{Key as Known};
+ghost use Rattle.thread_frames.specs.Indexing.{AreFirst, Notes, same_key, keys_of};
 
-use crate::thread::Thread;
+use crate::entry::Entry;
 use machine_spec::{BlockId, InstanceId};
 use std::alloc::Global;
 use std::collections::HashMap;
@@ -35,7 +35,7 @@ impl Key {
 // The first slot of each hat that has a thread in a list, while it is fresh. Else it tells nothing.
 #[derive(Debug, Drop)]
 pub(crate) struct HatIndex {
-    slots: HashMap<Key, usize>,
+    slots: HashMap<Key, u64>,
     is_fresh: bool,
     searches: u32,
 }
@@ -62,9 +62,9 @@ impl HatIndex {
 
     // The first slot of a thread of the instance and the hat.
     #[inline]
-    pub(crate) fn slot(&self, of: InstanceId, hat: BlockId) -> Option<usize>
+    pub(crate) fn slot(&self, of: InstanceId, hat: BlockId) -> Option<u64>
         requires { self.now.is_fresh ≡ true }
-        ensures { (ts : List Seen) → AreFirst self.now ts → result ≡ position (is_of of hat) ts }
+        ensures { (keys : List Known) → AreFirst self.now keys → result ≡ position (λ k. same_key k (record { of = of; hat = hat })) keys }
     {
         self.slots.get(&Key::new(of, hat)).copied()
     }
@@ -72,7 +72,7 @@ impl HatIndex {
     // It tells nothing from now on.
     #[inline]
     pub(crate) fn forget(&mut self)
-        ensures { (ts : List Seen) → AreFirst self.new ts }
+        ensures { (keys : List Known) → AreFirst self.new keys }
     {
         self.is_fresh = false;
         self.searches = 0;
@@ -88,8 +88,8 @@ impl HatIndex {
     }
 
     // A thread was appended in a slot. Where that wants memory and there is none, the index tells nothing from now on.
-    pub(crate) fn append(&mut self, of: InstanceId, hat: BlockId, slot: usize)
-        ensures { (ts : List Seen) → (t : Seen) → t.of ≡ of → t.hat ≡ hat → slot ≡ length ts → AreFirst self.old ts → AreFirst self.new (ts ++ t ∷ []) }
+    pub(crate) fn append(&mut self, of: InstanceId, hat: BlockId, slot: u64)
+        ensures { (keys : List Known) → slot ≡ length keys → AreFirst self.old keys → AreFirst self.new (keys ++ record { of = of; hat = hat } ∷ []) }
     {
         if self.is_fresh {
             self.is_fresh = note(&mut self.slots, Key::new(of, hat), slot);
@@ -98,8 +98,8 @@ impl HatIndex {
 
     // A hat is searched for in a list. One that is searched often is looked through.
     #[inline]
-    pub(crate) fn prepare_search(&mut self, threads: &[Thread])
-        ensures { AreFirst self.old threads.now → AreFirst self.new threads.now }
+    pub(crate) fn prepare_search(&mut self, threads: &[Entry])
+        ensures { AreFirst self.old (keys_of threads.now) → AreFirst self.new (keys_of threads.now) }
     {
         if self.is_fresh {
             return;
@@ -112,18 +112,18 @@ impl HatIndex {
     }
 
     // Looks through a list.
-    fn renew(&mut self, threads: &[Thread])
-        ensures { AreFirst self.new threads.now }
+    fn renew(&mut self, threads: &[Entry])
+        ensures { AreFirst self.new (keys_of threads.now) }
     {
         self.clear();
-        for (slot, thread) in threads.iter().enumerate() {
-            self.append(thread.of(), thread.hat(), slot);
+        for (slot, entry) in threads.iter().enumerate() {
+            self.append(entry.thread.of(), entry.thread.hat(), slot as u64);
         }
     }
 }
 
 // Notes a slot, unless the key has one; false for want of memory.
-fn note(slots: &mut HashMap<Key, usize>, key: Key, slot: usize) -> bool
+fn note(slots: &mut HashMap<Key, u64>, key: Key, slot: u64) -> bool
     ensures { result ≡ true → Notes slots.old slots.new key slot }
 {
     if slots.contains_key(&key) {

@@ -1,6 +1,8 @@
-//! The threads of a run as plain data: which there are, how each stands, and the levels that each has open.
+//! The threads of a run as plain data: which there are, how each stands, and the levels that each has open. The levels of all
+//! threads stand in one pool.
 #![tactic(auto)]
 
+mod entry;
 mod hat_index;
 mod level;
 mod levels;
@@ -8,7 +10,11 @@ mod parts;
 mod stops;
 mod table;
 mod thread;
+mod thread_ends;
+mod thread_levels;
+mod thread_starts;
 mod threads;
+mod unwinding;
 
 pub use level::Level;
 pub use levels::Levels;

@@ -1,33 +1,32 @@
-//! The threads in their places.
+//! The threads in their places, each with where its levels stand.
 
-ghost use Rattle.std.specs.Prelude.{◌≡◌, ◌==◌, ◌&&◌, ◌<◌, ◌≤◌, ◌∷◌, ◌++◌, [], length, slice_get, slice_set, position, find, sum_by, not, Some, None, is_some, IsTrue, ◌↔◌, OnOk, OnErr};
+ghost use Rattle.std.specs.Prelude.{◌≡◌, ◌==◌, ◌<◌, ◌∷◌, ◌++◌, [], length, slice_get, slice_set, position, find, filter, not, Some, None, is_some, IsTrue, ◌↔◌, OnOk, OnErr};
 ghost use Rattle.std.specs.Borrow.{sem};
 ghost use Rattle.std.specs.List.{list_any};
 ghost use Rattle.std.specs.Option.{option_map, option_copied};
-ghost use Rattle.machine_spec.specs.Outcome.{most_levels};
 ghost use Rattle.machine_spec.specs.Places.{Places, at_place, put};
-ghost use Rattle.machine_spec.specs.Threads.{is_done};
-ghost use Rattle.thread_frames.specs.Lending.{LendsThread};
-ghost use Rattle.thread_frames.specs.Threads.{no_threads, without_detached, without_done, is_of, is_alive_of};
+ghost use Rattle.thread_frames.specs.Entries.{no_entries, none_detached, none_done, is_done_entry, is_entry_of, is_alive_entry_of, stack_of};
+ghost use Rattle.thread_frames.specs.Lending.{LendsEntry};
 
-use crate::thread::Thread;
+use crate::entry::Entry;
 use machine_spec::{BlockId, InstanceId, Serial, Which};
+use shared_stacks::Stack;
 use std::alloc::{AllocError, Global};
 use std::marker::Model;
 use std::mem;
 
-// The threads in their places, and no count of their levels.
+// The threads in their places, each with where its levels stand.
 #[derive(Debug, Drop)]
 pub(crate) struct Table {
-    list: Vec<Thread>,
-    detached: Option<Thread>,
+    list: Vec<Entry>,
+    detached: Option<Entry>,
 }
 
 impl Model for Table {
     ghost use Rattle.machine_spec.specs.Places.{Places};
-    ghost use Rattle.thread_frames.specs.Threads.{Thread as Seen};
+    ghost use Rattle.thread_frames.specs.Entries.{Entry};
 
-    ghost Value = { Places Seen };
+    ghost Value = { Places Entry };
 
     ghost view = { λ t. record { list = t.list.items; detached = t.detached } };
 }
@@ -35,7 +34,7 @@ impl Model for Table {
 impl Table {
     // No threads.
     pub(crate) fn new(alloc: Global) -> Table
-        ensures { result ≡ no_threads }
+        ensures { result ≡ no_entries }
     {
         Table {
             list: Vec::new(alloc),
@@ -45,7 +44,7 @@ impl Table {
 
     // The threads of the list.
     #[inline]
-    pub(crate) fn list(&self) -> &[Thread]
+    pub(crate) fn list(&self) -> &[Entry]
         ensures { result.now ≡ self.now.list }
     {
         self.list.as_slice()
@@ -61,7 +60,7 @@ impl Table {
 
     // The thread at a place.
     #[inline]
-    pub(crate) fn at(&self, which: Which) -> Option<&Thread>
+    pub(crate) fn at(&self, which: Which) -> Option<&Entry>
         ensures { option_copied result ≡ at_place which self.now }
     {
         match which {
@@ -70,29 +69,40 @@ impl Table {
         }
     }
 
+    // Where the levels of the thread at a place stand; nowhere where there is none.
+    #[inline]
+    pub(crate) fn stack(&self, which: Which) -> Stack
+        ensures { result ≡ stack_of (at_place which self.now) }
+    {
+        match self.at(which) {
+            Some(entry) => entry.stack,
+            None => Stack::EMPTY,
+        }
+    }
+
     // The thread of a slot, to be changed.
     #[inline]
-    fn slot_mut(&mut self, slot: usize) -> Option<&mut Thread>
-        ensures* lends { sem 𝓛 (LendsThread self.entry (Which.Slot slot) result) }
-        ensures thread { option_map (λ t. t.now) result ≡ at_place (Which.Slot slot) self.old }
+    fn slot_mut(&mut self, slot: usize) -> Option<&mut Entry>
+        ensures* lends { sem 𝓛 (LendsEntry self.entry (Which.Slot slot) result) }
+        ensures entry { option_map (λ e. e.now) result ≡ at_place (Which.Slot slot) self.old }
     {
         self.list.get_mut(slot)
     }
 
     // The detached thread, to be changed.
     #[inline]
-    fn detached_mut(&mut self) -> Option<&mut Thread>
-        ensures* lends { sem 𝓛 (LendsThread self.entry Which.Detached result) }
-        ensures thread { option_map (λ t. t.now) result ≡ at_place Which.Detached self.old }
+    fn detached_mut(&mut self) -> Option<&mut Entry>
+        ensures* lends { sem 𝓛 (LendsEntry self.entry Which.Detached result) }
+        ensures entry { option_map (λ e. e.now) result ≡ at_place Which.Detached self.old }
     {
         self.detached.as_mut()
     }
 
     // The thread at a place, to be changed.
     #[inline]
-    pub(crate) fn at_mut(&mut self, which: Which) -> Option<&mut Thread>
-        ensures* lends { sem 𝓛 (LendsThread self.entry which result) }
-        ensures thread { option_map (λ t. t.now) result ≡ at_place which self.old }
+    pub(crate) fn at_mut(&mut self, which: Which) -> Option<&mut Entry>
+        ensures* lends { sem 𝓛 (LendsEntry self.entry which result) }
+        ensures entry { option_map (λ e. e.now) result ≡ at_place which self.old }
     {
         match which {
             Which::Slot(slot) => self.slot_mut(slot as usize),
@@ -102,105 +112,85 @@ impl Table {
 
     // Appends a thread. The only error is want of memory, and then nothing changes.
     #[inline]
-    pub(crate) fn append(&mut self, thread: Thread) -> Result<(), AllocError>
-        ensures ok { OnOk result (self.new ≡ record { list = self.old.list ++ thread ∷ []; detached = self.old.detached }) }
+    pub(crate) fn append(&mut self, entry: Entry) -> Result<(), AllocError>
+        ensures ok { OnOk result (self.new ≡ record { list = self.old.list ++ entry ∷ []; detached = self.old.detached }) }
         ensures err { OnErr result (self.new ≡ self.old) }
     {
-        self.list.push(thread)?;
+        self.list.push(entry)?;
         Ok(())
     }
 
     // Puts a thread into a slot; the one that stood there is the detached one now.
     #[inline]
-    pub(crate) fn detach(&mut self, slot: usize, thread: Thread)
+    pub(crate) fn detach(&mut self, slot: usize, entry: Entry)
         requires { slot < length self.old.list }
-        ensures detached { self.new.detached ≡ slice_get self.old.list slot }
-        ensures list { self.new.list ≡ slice_set self.old.list slot thread }
+        ensures { self.new ≡ record { list = slice_set self.old.list slot entry; detached = slice_get self.old.list slot } }
     {
-        let old = mem::replace(&mut self.list[slot], thread);
+        let old = mem::replace(&mut self.list[slot], entry);
         self.detached = Some(old);
     }
 
-    // Takes the detached thread out.
+    // Takes the detached thread away.
     #[inline]
-    pub(crate) fn take_detached(&mut self) -> Option<Thread>
-        ensures thread { result ≡ self.old.detached }
-        ensures new { self.new ≡ without_detached self.old }
+    pub(crate) fn forget_detached(&mut self)
+        ensures { self.new ≡ none_detached self.old }
     {
-        self.detached.take()
+        self.detached = None;
     }
 
     // Whether a thread of the list is done.
-    fn is_any_done(&self) -> bool
-        ensures { result ≡ list_any (λ t. is_done t.status) self.now.list }
+    pub(crate) fn is_any_done(&self) -> bool
+        ensures { result ≡ list_any is_done_entry self.now.list }
     {
-        self.list.iter().any(|thread| thread.is_done())
+        self.list.iter().any(|entry| entry.thread.is_done())
     }
 
-    // Whether no thread is detached, and none of the list is done.
-    pub(crate) fn is_clean(&self) -> bool
-        ensures { IsTrue result ↔ (without_done self.now ≡ self.now) }
-    {
-        !self.is_any_detached() && !self.is_any_done()
-    }
-
-    // Takes the threads that are done out of the list, and the detached one away.
+    // Takes the threads that are done out of the list.
     pub(crate) fn remove_done(&mut self)
-        ensures { self.new ≡ without_done self.old }
+        ensures { self.new ≡ none_done self.old }
     {
-        self.list.retain(|thread| !thread.is_done());
-        self.detached = None;
+        self.list.retain(|entry| !entry.thread.is_done());
     }
 
     // Takes all threads away.
     pub(crate) fn clear(&mut self)
-        ensures { self.new ≡ no_threads }
+        ensures { self.new ≡ no_entries }
     {
         self.list.clear();
-        let _gone = self.detached.take();
-    }
-
-    // How many levels the threads of the list have.
-    pub(crate) fn count_listed(&self) -> usize
-        requires { sum_by (λ t. length t.levels) self.now.list ≤ most_levels }
-        ensures { result ≡ sum_by (λ t. length t.levels) self.now.list }
-    {
-        let mut count = 0;
-        for thread in &self.list {
-            count += thread.levels().depth();
-        }
-        count
+        self.detached = None;
     }
 
     // The first listed thread with the number.
-    pub(crate) fn find(&self, serial: Serial) -> Option<&Thread>
-        ensures { option_copied result ≡ find (λ t. t.serial == serial) self.now.list }
+    pub(crate) fn find(&self, serial: Serial) -> Option<&Entry>
+        ensures { option_copied result ≡ find (λ e. e.thread.serial == serial) self.now.list }
     {
-        self.list.iter().find(|thread| thread.serial() == serial)
+        self.list
+            .iter()
+            .find(|entry| entry.thread.serial() == serial)
     }
 
     // The first slot whose thread has the number.
     pub(crate) fn slot_of(&self, serial: Serial) -> Option<usize>
-        ensures { result ≡ position (λ t. t.serial == serial) self.now.list }
+        ensures { result ≡ position (λ e. e.thread.serial == serial) self.now.list }
     {
         self.list
             .iter()
-            .position(|thread| thread.serial() == serial)
+            .position(|entry| entry.thread.serial() == serial)
     }
 
     // The first slot whose thread is of the instance and the hat.
     pub(crate) fn slot_of_hat(&self, of: InstanceId, hat: BlockId) -> Option<usize>
-        ensures { result ≡ position (is_of of hat) self.now.list }
+        ensures { result ≡ position (is_entry_of of hat) self.now.list }
     {
         self.list
             .iter()
-            .position(|thread| thread.of() == of && thread.hat() == hat)
+            .position(|entry| entry.thread.of() == of && entry.thread.hat() == hat)
     }
 
     // Whether a listed thread of the instance and the hat is not done.
     pub(crate) fn is_any_alive(&self, of: InstanceId, hat: BlockId) -> bool
-        ensures { result ≡ list_any (is_alive_of of hat) self.now.list }
+        ensures { result ≡ list_any (is_alive_entry_of of hat) self.now.list }
     {
-        self.list.iter().any(|thread| thread.of() == of && thread.hat() == hat && !thread.is_done())
+        self.list.iter().any(|entry| entry.thread.of() == of && entry.thread.hat() == hat && !entry.thread.is_done())
     }
 }

@@ -1,16 +1,18 @@
-use Rattle.std.proofs.Common.{length, ap, arith}
-use Rattle.thread_frames.specs.Threads.{Thread}
-use Rattle.thread_frames.proofs.Counts.{own_count, put_count}
-use Rattle.thread_frames.proofs.Indexed.{kept_put}
+use Rattle.std.proofs.Common.{sym, ap, ap₂, arith}
+use Rattle.thread_frames.specs.Threads.{with_levels, finish}
+use Rattle.thread_frames.proofs.Kept.{is_in, kept_moved, bare_key}
+use Rattle.thread_frames.proofs.Views.{view_moved}
 use Rattle.thread_frames.proofs.threads.Threads.finish.Goals as goal
 
-pub overflow_sub-self : goal.overflow_sub-self
-overflow_sub-self c =
-    omega (arith, own_count _ c.args.which _ _ c.self.invariant.count c.in-Some.ensures.thread, c.depth-depth.ensures, ap length c.levels.ensures)
+pub clear-requires : goal.clear-requires
+clear-requires c = is_in c.self.inside.pool c.args.which _ c.self.inside.table c.self.invariant.stand (sym c.in-Some.ensures.entry)
 
 pub invariant_of-self-2 : goal.invariant_of-self-2
 invariant_of-self-2 c =
-    kept_put _ _ _ c.args.which _ _ _ c.self.invariant c.in-Some.ensures.thread (ap (λ (t : Thread). t.of) c.finish.ensures) (ap (λ (t : Thread). t.hat) c.finish.ensures)
-    (put_count _ _ _ _ _ _ c.self.invariant.count c.in-Some.ensures.thread
-    (omega (arith, own_count _ c.args.which _ _ c.self.invariant.count c.in-Some.ensures.thread, c.depth-depth.ensures, ap length c.levels.ensures, ap (λ (t : Thread). length t.levels) c.finish.ensures))
-    (omega (arith, c.self.invariant.count.few)))
+    kept_moved c.self.inside.pool _ _ c.args.which _ _ c.self.inside.table c.self.invariant (sym c.in-Some.ensures.entry) c.clear.ensures.moved (omega (arith, c.clear.ensures.moved.count, c.clear.ensures.depth, c.self.invariant.stand.few))
+    (ap bare_key c.with_status-entry.ensures)
+
+pub returns : goal.returns
+returns c =
+    view_moved c.self.inside.pool _ finish c.args.which _ _ c.self.inside.table _ c.self.view_is c.self.invariant.stand (sym c.in-Some.ensures.entry) c.clear.ensures.moved
+    (ap₂ with_levels c.with_status-entry.ensures c.clear.ensures.values)

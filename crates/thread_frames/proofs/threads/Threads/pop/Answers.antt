@@ -1,18 +1,23 @@
-use Rattle.std.proofs.Common.{length, ap, arith, refl}
-use Rattle.thread_frames.proofs.Counts.{own_count, no_count, less_count}
-use Rattle.thread_frames.proofs.Indexed.{kept_put}
+use Rattle.std.proofs.Common.{◌≡◌, ℕ, ◌-◌, sym, ap, ◌∙◌, refl, arith}
+use Rattle.std.specs.Prelude.{nat_lt}
+use Rattle.thread_frames.specs.Levels.{without_top}
+use Rattle.thread_frames.proofs.Kept.{is_in, kept_moved}
+use Rattle.thread_frames.proofs.Tops.{view_levels, entry_depth, left_over}
 use Rattle.thread_frames.proofs.threads.Threads.pop.Goals as goal
 
-pub invariant_of-self-then-depth-eq0 : goal.invariant_of-self-then-depth-eq0
-invariant_of-self-then-depth-eq0 c =
-    kept_put _ _ _ c.args.which _ _ _ c.self.invariant c.in-Some.ensures.thread refl refl
-    (no_count _ _ _ _ _ _ _ c.self.invariant.count c.in-Some.ensures.thread c.levels_mut-levels.ensures.levels c.pop.ensures c.depth-depth.ensures c.if-depth-eq0.true)
-
-pub overflow_sub-self : goal.overflow_sub-self
-overflow_sub-self c =
-    omega (arith, own_count _ c.args.which _ _ c.self.invariant.count c.in-Some.ensures.thread, c.depth-depth.ensures, ap length c.levels_mut-levels.ensures.levels)
+pub pop-top-requires : goal.pop-top-requires
+pop-top-requires c = is_in c.self.inside.pool c.args.which _ c.self.inside.table c.self.invariant.stand (sym c.in-Some.ensures.entry)
 
 pub invariant_of-self-2 : goal.invariant_of-self-2
 invariant_of-self-2 c =
-    kept_put _ _ _ c.args.which _ _ _ c.self.invariant c.in-Some.ensures.thread refl refl
-    (less_count _ _ _ _ _ _ _ c.self.invariant.count c.in-Some.ensures.thread c.levels_mut-levels.ensures.levels c.pop.ensures c.depth-depth.ensures c.if-depth-eq0.false)
+    kept_moved c.self.inside.pool _ _ c.args.which _ _ c.self.inside.table c.self.invariant (sym c.in-Some.ensures.entry) c.pop-top.ensures.moved
+    (omega (arith, c.pop-top.ensures.moved.count, c.pop-top.ensures.depth, c.self.invariant.stand.few)) refl
+
+pub returns-clause-popped : goal.returns-clause-popped
+returns-clause-popped c =
+    view_levels c.self.inside.pool _ without_top c.args.which _ _ c.self.inside.table _ c.self.view_is c.self.invariant.stand (sym c.in-Some.ensures.entry) c.pop-top.ensures.moved c.pop-top.ensures.values
+
+pub returns-clause-left : goal.returns-clause-left
+returns-clause-left c =
+    ap (nat_lt 0) (c.depth.ensures ∙ c.pop-top.ensures.depth) ∙ left_over _
+    ∙ sym (ap (nat_lt 1) (entry_depth c.self.inside.pool c.args.which _ c.self.inside.table _ c.self.view_is c.self.invariant.stand (sym c.in-Some.ensures.entry)))

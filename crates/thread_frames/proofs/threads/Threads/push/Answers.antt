@@ -1,17 +1,24 @@
-use Rattle.std.proofs.Common.{length, sym, ap, ◌∙◌, refl}
-use Rattle.thread_frames.proofs.Counts.{same_count, more_count, put_same}
-use Rattle.thread_frames.proofs.Indexed.{kept_put}
+use Rattle.std.proofs.Common.{◌∷◌, ap, sym, ◌∙◌, arith}
+use Rattle.std.proofs.lemmas.Bool.{lt-ltb, le-ltb}
+use Rattle.machine_spec.specs.Outcome.{Goes, most_levels}
+use Rattle.machine_spec.specs.Places.{on_place}
+use Rattle.thread_frames.specs.Levels.{Level}
+use Rattle.thread_frames.specs.Threads.{on_levels}
+use Rattle.thread_frames.proofs.Views.{open_is}
+use Rattle.thread_frames.proofs.Restarts.{is_full, has_room}
 use Rattle.thread_frames.proofs.threads.Threads.push.Goals as goal
 
-pub invariant_of-self-in-Err : goal.invariant_of-self-in-Err
-invariant_of-self-in-Err c =
-    kept_put _ _ _ c.args.which _ _ _ c.self.invariant c.in-Some.ensures.thread refl refl
-    (same_count _ _ _ _ _ c.self.invariant.count c.in-Some.ensures.thread (ap length (c.in-Err.ensures.err ∙ c.levels_mut.ensures.levels)))
+pub returns-then-used-ge-MOST_LEVELS-clause-stop : goal.returns-then-used-ge-MOST_LEVELS-clause-stop
+returns-then-used-ge-MOST_LEVELS-clause-stop c = is_full _ _ (omega (arith, open_is c.self.inside.pool c.self.inside.table _ c.self.view_is c.self.invariant.stand))
 
-pub returns-in-Err-clause-err : goal.returns-in-Err-clause-err
-returns-in-Err-clause-err c = rw (c.in-Err.ensures.err, c.levels_mut.ensures.levels) (put_same _ _ _ (sym c.in-Some.ensures.thread) ∙ c.self.view_is)
+pub returns-then-used-ge-MOST_LEVELS-clause-room : goal.returns-then-used-ge-MOST_LEVELS-clause-room
+returns-then-used-ge-MOST_LEVELS-clause-room c = sym (le-ltb _ most_levels (omega (arith, open_is c.self.inside.pool c.self.inside.table _ c.self.view_is c.self.invariant.stand)))
 
-pub invariant_of-self-2 : goal.invariant_of-self-2
-invariant_of-self-2 c =
-    kept_put _ _ _ c.args.which _ _ _ c.self.invariant c.in-Some.ensures.thread refl refl
-    (more_count _ _ _ _ _ _ _ c.self.invariant.count c.in-Some.ensures.thread c.levels_mut.ensures.levels c.in-Ok.ensures.ok c.if-self-ge-MOST_LEVELS.false)
+pub put-requires : goal.put-requires
+put-requires c = omega (arith, open_is c.self.inside.pool c.self.inside.table _ c.self.view_is c.self.invariant.stand)
+
+pub returns-clause-ok : goal.returns-clause-ok
+returns-clause-ok c = has_room _ _ (omega (arith, open_is c.self.inside.pool c.self.inside.table _ c.self.view_is c.self.invariant.stand)) ∙ ap Goes (ap (λ (l : Level). on_place (on_levels (λ ls. l ∷ ls)) c.args.which c.args.self.now) (sym c.new.ensures) ∙ sym c.put.ensures)
+
+pub returns-clause-room : goal.returns-clause-room
+returns-clause-room c = sym (lt-ltb _ most_levels (omega (arith, open_is c.self.inside.pool c.self.inside.table _ c.self.view_is c.self.invariant.stand)))

@@ -1,37 +1,36 @@
-use Rattle.std.proofs.Common.{◌≡◌, length, ap, sym, ◌∙◌, arith}
+use Rattle.std.proofs.Common.{◌∷◌, sym, ap, ◌∙◌, arith}
 use Rattle.machine_spec.specs.declared.threads.Which.TheVariants.{Slot}
-use Rattle.thread_frames.specs.Threads.{Thread}
-use Rattle.thread_frames.proofs.Counts.{own_count, put_count, same_count, put_same}
-use Rattle.thread_frames.proofs.Restarts.{is_full, has_room, restarted-false}
-use Rattle.thread_frames.proofs.Indexed.{kept_put}
+use Rattle.machine_spec.specs.Places.{on_place}
+use Rattle.shared_stacks.proofs.Chains.{length-values}
+use Rattle.thread_frames.specs.Entries.{seen}
+use Rattle.thread_frames.specs.Levels.{Level}
+use Rattle.thread_frames.specs.Threads.{on_levels}
+use Rattle.thread_frames.proofs.Kept.{is_in, depth_few}
+use Rattle.thread_frames.proofs.Views.{open_is, there}
+use Rattle.thread_frames.proofs.Restarts.{restart_full, renewed_room, restart_goes}
 use Rattle.thread_frames.proofs.threads.Threads.restart.Goals as goal
 
 pub overflow_sub-others : goal.overflow_sub-others
-overflow_sub-others c =
-    omega (arith, own_count _ (Slot c.args.slot) _ _ c.self.invariant.count c.in-Some.ensures, c.depth.ensures, ap length c.levels.ensures)
+overflow_sub-others c = omega (arith, c.depth.ensures, c.used.ensures, depth_few c.self.inside.pool (Slot c.args.slot) c.in-Some.entry.now c.self.inside.table c.self.invariant.stand (sym c.in-Some.ensures))
 
 pub returns-then-others-ge-MOST_LEVELS-clause-stop : goal.returns-then-others-ge-MOST_LEVELS-clause-stop
 returns-then-others-ge-MOST_LEVELS-clause-stop c =
-    rw (← c.self.view_is) (restarted-false _ _ _ _ _ _ _ _ c.self.invariant.count c.in-Some.ensures (c.depth.ensures ∙ ap length c.levels.ensures) ∙ is_full _ _ c.if-others-ge-MOST_LEVELS.true)
+    restart_full c.args.slot c.args.serial c.args.target c.args.first (seen c.self.inside.pool c.in-Some.entry.now) c.args.self.now (there c.self.inside.pool (Slot c.args.slot) c.in-Some.entry.now c.self.inside.table _ c.self.view_is (sym c.in-Some.ensures))
+    (omega (arith, open_is c.self.inside.pool c.self.inside.table _ c.self.view_is c.self.invariant.stand, length-values c.self.inside.pool c.in-Some.entry.now.stack (is_in c.self.inside.pool (Slot c.args.slot) c.in-Some.entry.now c.self.inside.table c.self.invariant.stand (sym c.in-Some.ensures)), c.depth.ensures, c.used.ensures))
 
-pub invariant_of-self-in-Err : goal.invariant_of-self-in-Err
-invariant_of-self-in-Err c =
-    kept_put _ _ _ (Slot c.args.slot) _ _ _ c.self.invariant c.in-Some-at_mut.ensures.thread (ap (λ (t : Thread). t.of) c.in-Err.ensures.err) (ap (λ (t : Thread). t.hat) c.in-Err.ensures.err)
-    (same_count _ (Slot c.args.slot) _ _ _ c.self.invariant.count c.in-Some-at_mut.ensures.thread (ap (λ (t : Thread). length t.levels) c.in-Err.ensures.err))
-
-pub returns-in-Err-clause-err : goal.returns-in-Err-clause-err
-returns-in-Err-clause-err c = rw c.in-Err.ensures.err (put_same (Slot c.args.slot) _ _ (sym c.in-Some-at_mut.ensures.thread) ∙ c.self.view_is)
-
-pub invariant_of-self-2 : goal.invariant_of-self-2
-invariant_of-self-2 c =
-    let same : c.in-Some-at_mut.thread.now ≡ c.in-Some.old.now = cc (c.in-Some.ensures, c.in-Some-at_mut.ensures.thread) in
-    kept_put _ _ _ (Slot c.args.slot) _ _ _ c.self.invariant c.in-Some-at_mut.ensures.thread (ap (λ (t : Thread). t.of) c.in-Ok.ensures.ok) (ap (λ (t : Thread). t.hat) c.in-Ok.ensures.ok)
-    (put_count _ _ (Slot c.args.slot) _ _ _ c.self.invariant.count c.in-Some-at_mut.ensures.thread
-    (omega (arith, own_count _ (Slot c.args.slot) _ _ c.self.invariant.count c.in-Some.ensures, c.depth.ensures, ap length c.levels.ensures, ap (λ (t : Thread). length t.levels) c.in-Ok.ensures.ok, ap (λ (t : Thread). length t.levels) same))
-    (omega (arith, c.if-others-ge-MOST_LEVELS.false)))
+pub put-requires : goal.put-requires
+put-requires c =
+    omega (
+      arith,
+      renewed_room c.args.slot c.args.serial c.args.target c.args.first (seen c.self.inside.pool c.in-Some.entry.now) c.args.self.now (there c.self.inside.pool (Slot c.args.slot) c.in-Some.entry.now c.self.inside.table _ c.self.view_is (sym c.in-Some.ensures)) _ c.renew.ensures,
+      open_is c.self.inside.pool c.self.inside.table _ c.self.view_is c.self.invariant.stand,
+      length-values c.self.inside.pool c.in-Some.entry.now.stack (is_in c.self.inside.pool (Slot c.args.slot) c.in-Some.entry.now c.self.inside.table c.self.invariant.stand (sym c.in-Some.ensures)),
+      c.depth.ensures,
+      c.used.ensures,
+    )
 
 pub returns-clause-ok : goal.returns-clause-ok
 returns-clause-ok c =
-    let same : c.in-Some.old.now ≡ c.in-Some-at_mut.thread.now = cc (c.in-Some.ensures, c.in-Some-at_mut.ensures.thread) in
-    let deep : c.depth.result ≡ length c.in-Some-at_mut.thread.now.levels = c.depth.ensures ∙ ap length c.levels.ensures ∙ ap (λ (t : Thread). length t.levels) same in
-    rw (← c.self.view_is, c.in-Ok.ensures.ok) (restarted-false _ _ _ _ _ _ _ _ c.self.invariant.count c.in-Some-at_mut.ensures.thread deep ∙ has_room _ _ c.if-others-ge-MOST_LEVELS.false)
+    restart_goes c.args.slot c.args.serial c.args.target c.args.first (seen c.self.inside.pool c.in-Some.entry.now) c.args.self.now (there c.self.inside.pool (Slot c.args.slot) c.in-Some.entry.now c.self.inside.table _ c.self.view_is (sym c.in-Some.ensures))
+    _ _ c.renew.ensures (omega (arith, open_is c.self.inside.pool c.self.inside.table _ c.self.view_is c.self.invariant.stand, length-values c.self.inside.pool c.in-Some.entry.now.stack (is_in c.self.inside.pool (Slot c.args.slot) c.in-Some.entry.now c.self.inside.table c.self.invariant.stand (sym c.in-Some.ensures)), c.depth.ensures, c.used.ensures))
+    (c.put.ensures ∙ ap (λ (l : Level). on_place (on_levels (λ ls. l ∷ ls)) (Slot c.args.slot) c.renew.new.self) c.new.ensures)

@@ -1,10 +1,17 @@
-use Rattle.std.proofs.Common.{refl}
-use Rattle.thread_frames.specs.Levels.{with_loop}
-use Rattle.thread_frames.proofs.Counts.{top_count}
-use Rattle.thread_frames.proofs.Indexed.{kept_put}
+use Rattle.std.proofs.Common.{refl, ap, arith}
+use Rattle.thread_frames.specs.Levels.{on_top, with_loop}
+use Rattle.thread_frames.proofs.Tops.{kept_top, view_top, read_in, read_empty}
 use Rattle.thread_frames.proofs.threads.Threads.set_loop.Goals as goal
 
-pub invariant_of-self-2 : goal.invariant_of-self-2
-invariant_of-self-2 c =
-    kept_put _ _ _ c.args.which _ _ _ c.self.invariant c.in-Some.ensures.thread refl refl
-    (top_count (with_loop c.args.is_loop) _ _ _ _ _ _ c.self.invariant.count c.in-Some.ensures.thread c.levels_mut.ensures.levels c.set_loop.ensures)
+pub top_mut-top-requires-clause-there : goal.top_mut-top-requires-clause-there
+top_mut-top-requires-clause-there c = read_in c.self.inside.pool c.args.which c.self.inside.table _ c.stack-stack.ensures c.self.invariant.stand
+
+pub invariant_of-self : goal.invariant_of-self
+invariant_of-self c = kept_top c.self.inside.pool _ c.args.which c.self.inside.table _ _ c.stack-stack.ensures c.self.invariant (omega arith)
+
+pub returns-then-depth-gt0 : goal.returns-then-depth-gt0
+returns-then-depth-gt0 c =
+    view_top c.self.inside.pool (with_loop c.args.is_loop) _ _ c.args.which c.self.inside.table _ _ c.stack-stack.ensures c.self.view_is c.self.invariant.stand (omega arith) c.top_mut-top.ensures.value c.set_loop.ensures
+
+pub returns-else-depth-gt0 : goal.returns-else-depth-gt0
+returns-else-depth-gt0 c = read_empty c.self.inside.pool (on_top (with_loop c.args.is_loop)) refl c.args.which c.self.inside.table _ _ c.stack-stack.ensures c.self.view_is (omega arith)

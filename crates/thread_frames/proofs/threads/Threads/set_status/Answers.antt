@@ -1,10 +1,16 @@
-use Rattle.std.proofs.Common.{length, ap}
-use Rattle.thread_frames.specs.Threads.{Thread}
-use Rattle.thread_frames.proofs.Counts.{same_count}
-use Rattle.thread_frames.proofs.Indexed.{kept_put}
+use Rattle.std.proofs.Common.{sym, ap}
+use Rattle.shared_stacks.specs.Chains.{values}
+use Rattle.shared_stacks.proofs.Chains.{Moves-none}
+use Rattle.thread_frames.specs.Threads.{Bare, with_levels, with_status}
+use Rattle.thread_frames.proofs.Kept.{kept_moved, bare_key}
+use Rattle.thread_frames.proofs.Views.{view_moved}
 use Rattle.thread_frames.proofs.threads.Threads.set_status.Goals as goal
 
 pub invariant_of-self-2 : goal.invariant_of-self-2
 invariant_of-self-2 c =
-    kept_put _ _ _ c.args.which _ _ _ c.self.invariant c.in-Some.ensures.thread (ap (λ (t : Thread). t.of) c.set_status.ensures) (ap (λ (t : Thread). t.hat) c.set_status.ensures)
-    (same_count _ _ _ _ _ c.self.invariant.count c.in-Some.ensures.thread (ap (λ (t : Thread). length t.levels) c.set_status.ensures))
+    kept_moved c.self.inside.pool _ _ c.args.which _ _ c.self.inside.table c.self.invariant (sym c.in-Some.ensures.entry) (Moves-none c.self.inside.pool _) c.self.invariant.stand.few (ap bare_key c.with_status-entry.ensures)
+
+pub returns : goal.returns
+returns c =
+    view_moved c.self.inside.pool _ (with_status c.args.status) c.args.which _ _ c.self.inside.table _ c.self.view_is c.self.invariant.stand (sym c.in-Some.ensures.entry) (Moves-none c.self.inside.pool _)
+    (ap (λ (t : Bare). with_levels t (values c.self.inside.pool c.in-Some.entry.now.stack)) c.with_status-entry.ensures)
