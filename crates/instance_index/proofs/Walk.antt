@@ -131,28 +131,30 @@ module _ {A : Type 0} (own : A → ℕ) (f : ℕ → A → A) where
       }
 
       -- the slot that is visited has its element still
-      next_of : (k : ℕ) (old now : List A) → VisitedAbove (Some k) old now → (x : A) × (slice_get old k ≡ Some x) × (slice_get now k ≡ Some x)
-      next_of k old now visited =
+      at_slot : (k : ℕ) (old now : List A) → slice_get (map own old) k ≡ Some of → now ≡ changed_from f (suc k) old
+          → (x : A) × (slice_get old k ≡ Some x) × (slice_get now k ≡ Some x)
+      at_slot k old now there list =
           elim (slice_get_cases old k).1 [
-            | inl (x, lt, at, g) ↦ (x, at, ap (λ (ys : List A). slice_get ys k) visited.list ∙ slice_get-changed_from f k x old at)
-            | inr (past, none) ↦ absurd (omega (arith, slice_get_within (map own old) k of (visited.there k refl), length-map old own))
+            | inl (x, lt, at, g) ↦ (x, at, ap (λ (ys : List A). slice_get ys k) list ∙ slice_get-changed_from f k x old at)
+            | inr (past, none) ↦ absurd (omega (arith, slice_get_within (map own old) k of there, length-map old own))
           ]
 
       -- it is changed, and the walk goes on to the slot before it of the same instance
-      pub VisitedAbove-next : (k : ℕ) (next : Option ℕ) (old now new : List A) → VisitedAbove (Some k) old now
+      pub VisitedAbove-next : (k : ℕ) (here next : Option ℕ) (old now new : List A) → VisitedAbove here old now → here ≡ Some k
           → ((x : A) → slice_get now k ≡ Some x → new ≡ slice_set now k (f k x)) → next ≡ last_below of (map own old) k → VisitedAbove next old new
-      VisitedAbove-next k next old now new visited changed last =
-          let (x, at_old, at) = next_of k old now visited in
+      VisitedAbove-next k here next old now new visited is changed last =
+          let list : now ≡ changed_from f (suc k) old = visited.list ∙ ap (λ (o : Option ℕ). changed_from f (behind o) old) is in
+          let (x, at_old, at) = at_slot k old now (visited.there k is) list in
           record {
             list =
-                changed x at ∙ ap (λ (ys : List A). slice_set ys k (f k x)) visited.list ∙ set-changed_from f k x old at_old
+                changed x at ∙ ap (λ (ys : List A). slice_set ys k (f k x)) list ∙ set-changed_from f k x old at_old
                 ∙ leap old k (omega (arith, slice_get_within old k x at_old)) ∙ ap (λ (o : Option ℕ). changed_from f (behind o) old) (sym last);
             there = λ j found. last_below-there of (map own old) k j (sym last ∙ found);
           }
 
-      -- the walk ends
-      pub VisitedAbove-end : (old now : List A) → VisitedAbove None old now → now ≡ mapped_from f 0 old
-      VisitedAbove-end old now visited = visited.list
+    -- the walk ends
+    pub VisitedAbove-end : (next : Option ℕ) (old now : List A) → VisitedAbove next old now → next ≡ None → now ≡ mapped_from f 0 old
+    VisitedAbove-end next old now visited none = visited.list ∙ ap (λ (o : Option ℕ). changed_from f (behind o) old) none
 
     -- f changes the instance of no element
     pub map-visited : ((k : ℕ) (x : A) → own (f k x) ≡ own x) → (next : Option ℕ) (old now : List A) → VisitedAbove next old now → map own now ≡ map own old
