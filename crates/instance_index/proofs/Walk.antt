@@ -5,7 +5,7 @@ use Rattle.std.proofs.Math.Seq.{drop-cons}
 use Rattle.std.proofs.lemmas.List.{take_more, take_all, drop_all, append-nil, length-map, length-take-le, map-append, set_at, take-append-drop}
 use Rattle.std.proofs.lemmas.Option.{slice_get_within, get_or_from_slice_get, slice_get_cases, slice_get-map}
 use Rattle.instance_index.specs.Slots.{is_of, last_below}
-use Rattle.instance_index.proofs.Below.{last_below-there}
+use Rattle.instance_index.proofs.Below.{last_below-there, last_below-within}
 
 slice_get-at : {A : Type 0} (xs : List A) (y : A) (ys : List A) → slice_get (xs ++ y ∷ ys) (length xs) ≡ Some y
 slice_get-at [] y ys = refl
@@ -17,9 +17,13 @@ behind None = 0
 behind (Some next) = suc next
 
 -- a walk comes down
-pub behind-falls : (next : Option ℕ) (k : ℕ) → IfSome next (λ earlier. earlier < k) → behind next < behind (Some k)
-behind-falls None k below = omega arith
-behind-falls (Some earlier) k below = omega arith
+pub behind-below : (k : ℕ) (here next : Option ℕ) → here ≡ Some k → IfSome next (λ earlier. earlier < k) → behind next < behind here
+behind-below k here None is below = omega (arith, ap behind is)
+behind-below k here (Some earlier) is below = omega (arith, ap behind is)
+
+pub behind-last_below : (of : ℕ) (ofs : List ℕ) (k : ℕ) (here next : Option ℕ) → here ≡ Some k → next ≡ last_below of ofs k → behind next < behind here
+behind-last_below of ofs k here None is last = omega (arith, ap behind is)
+behind-last_below of ofs k here (Some earlier) is last = omega (arith, ap behind is, last_below-within of ofs k earlier (sym last))
 
 module _ {A : Type 0} (f : ℕ → A → A) where
   -- each element is changed; f is told its slot, and the first one stands in slot j
@@ -122,12 +126,12 @@ module _ {A : Type 0} (own : A → ℕ) (f : ℕ → A → A) where
           by x at false test rest = changed_from-same f n x xs at (stays n x test) ∙ rest
 
       -- the walk begins at the last slot of the instance
-      pub VisitedAbove-begin : (next : Option ℕ) (xs : List A) → next ≡ last_below of (map own xs) (length (map own xs)) → VisitedAbove next xs xs
+      pub VisitedAbove-begin : (next : Option ℕ) (xs : List A) → next ≡ last_below of (map own xs) (length xs) → VisitedAbove next xs xs
       VisitedAbove-begin next xs last = record {
         list =
             sym (changed_from-past f (length xs) xs (omega arith)) ∙ leap xs (length xs) (omega arith)
-            ∙ ap (λ (o : Option ℕ). changed_from f (behind o) xs) (ap (last_below of (map own xs)) (sym (length-map xs own)) ∙ sym last);
-        there = λ k found. last_below-there of (map own xs) (length (map own xs)) k (sym last ∙ found);
+            ∙ ap (λ (o : Option ℕ). changed_from f (behind o) xs) (sym last);
+        there = λ k found. last_below-there of (map own xs) (length xs) k (sym last ∙ found);
       }
 
       -- the slot that is visited has its element still
@@ -156,6 +160,16 @@ module _ {A : Type 0} (own : A → ℕ) (f : ℕ → A → A) where
     pub VisitedAbove-end : (next : Option ℕ) (old now : List A) → VisitedAbove next old now → next ≡ None → now ≡ mapped_from f 0 old
     VisitedAbove-end next old now visited none = visited.list ∙ ap (λ (o : Option ℕ). changed_from f (behind o) old) none
 
-    -- f changes the instance of no element
-    pub map-visited : ((k : ℕ) (x : A) → own (f k x) ≡ own x) → (next : Option ℕ) (old now : List A) → VisitedAbove next old now → map own now ≡ map own old
-    map-visited keeps next old now visited = ap (map own) visited.list ∙ map-changed_from keeps (behind next) old
+    -- where f changes the instance of no element, the walk may be told of the list as it stands
+    module _ (keeps : (k : ℕ) (x : A) → own (f k x) ≡ own x) where
+      pub map-visited : (next : Option ℕ) (old now : List A) → VisitedAbove next old now → map own now ≡ map own old
+      map-visited next old now visited = ap (map own) visited.list ∙ map-changed_from keeps (behind next) old
+
+      pub slice_get-visited : (k : ℕ) (here : Option ℕ) (old now : List A) → VisitedAbove here old now → here ≡ Some k → slice_get (map own now) k ≡ Some of
+      slice_get-visited k here old now visited is = ap (λ (os : List ℕ). slice_get os k) (map-visited here old now visited) ∙ visited.there k is
+
+      pub VisitedAbove-then : ((k : ℕ) (x : A) → (own x == of) ≡ false → f k x ≡ x) → (k : ℕ) (here next : Option ℕ) (old now new : List A) → VisitedAbove here old now
+          → here ≡ Some k → ((x : A) → slice_get now k ≡ Some x → new ≡ slice_set now k (f k x)) → next ≡ last_below of (map own now) k → VisitedAbove next old new
+      VisitedAbove-then stays k here next old now new visited is changed last =
+          VisitedAbove-next stays k here next old now new visited is changed
+          (last ∙ ap (λ (os : List ℕ). last_below of os k) (map-visited here old now visited))
