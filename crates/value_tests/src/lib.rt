@@ -1,6 +1,8 @@
-//! Tests of lists, numbers, words, values, links and the table of opcodes, by worked rows.
+//! Tests of lists, slots, numbers, words, values, links and the table of opcodes, by worked rows.
 #![tactic(auto)]
 
+#[cfg(test)]
+mod instance_index_tests;
 #[cfg(test)]
 mod link_graph_tests;
 #[cfg(test)]
