@@ -13,11 +13,11 @@ use Rattle.machine_spec.specs.Outcome.{most_levels}
 use Rattle.machine_spec.specs.Places.{Places, at_place, put}
 use Rattle.thread_frames.specs.Levels.{Level}
 use Rattle.thread_frames.specs.Entries.{Entry, stacks_of, stack_some, stack_of}
-use Rattle.thread_frames.specs.Indexing.{AreFirst, keys_of, key_of}
+use Rattle.thread_frames.specs.Indexing.{AreIndexed, keys_of, key_of}
 use Rattle.thread_frames.specs.Keeping.{IsKept}
 use Rattle.thread_frames.specs.Threads.{Bare}
-use Rattle.thread_frames.specs.declared.hat_index.Key.{Key}
-use Rattle.thread_frames.specs.declared.hat_index.HatIndex.{HatIndex}
+use Rattle.thread_frames.specs.declared.slot_index.Key.{Key}
+use Rattle.thread_frames.specs.declared.indexes.Indexes.{Indexes}
 use Rattle.thread_frames.proofs.Maps.{map-same}
 
 -- Where the stack of a thread stands among all
@@ -84,9 +84,9 @@ module _ (p : Pool Level) where
   depth_any which ts stand = depth_by which ts stand (at_place which ts) refl
 
   -- a thread was changed, and its stack as it tells
-  pub kept_moved : (q : Pool Level) (index : HatIndex) (which : Which) (e u : Entry) (ts : Places Entry) → IsKept p index ts → at_place which ts ≡ Some e → Moves p q e.stack u.stack
+  pub kept_moved : (q : Pool Level) (index : Indexes) (which : Which) (e u : Entry) (ts : Places Entry) → IsKept p index ts → at_place which ts ≡ Some e → Moves p q e.stack u.stack
       → used q ≤ most_levels → key_of u ≡ key_of e → IsKept q index (put which u ts)
   kept_moved q index which e u ts k found moves few same = record {
     stand = subst (Stand most_levels q) (stack_set which e u ts found) (Stand-moved most_levels p q e.stack u.stack (stacks_of ts) (place_in which ts) k.stand moves (stack_found which e ts found) few);
-    first = subst (AreFirst index) (sym (keys_put which e u ts found same)) k.first;
+    indexed = subst (AreIndexed index) (sym (keys_put which e u ts found same)) k.indexed;
   }

@@ -5,12 +5,15 @@ use Rattle.std.specs.List.{position_from, list_any}
 use Rattle.std.proofs.lemmas.Iterator.Adapters.{position_from-zero}
 use Rattle.machine_spec.specs.Places.{Places}
 use Rattle.shared_stacks.specs.declared.pool.Pool.{Pool}
-use Rattle.thread_frames.specs.declared.hat_index.HatIndex.{HatIndex}
-use Rattle.thread_frames.specs.declared.hat_index.Key.{Key}
+use Rattle.thread_frames.specs.declared.slot_index.SlotIndex.{SlotIndex}
+use Rattle.thread_frames.specs.declared.slot_index.Key.{Key}
+use Rattle.thread_frames.specs.declared.indexes.Indexes.{Indexes}
 use Rattle.thread_frames.specs.Levels.{Level}
 use Rattle.thread_frames.specs.Threads.{Thread, is_of, is_alive_of}
 use Rattle.thread_frames.specs.Entries.{Entry, seen, seen_all, is_entry_of, is_alive_entry_of}
-use Rattle.thread_frames.specs.Indexing.{AreFirst, Notes, noted, same_key, keys_of, key_of}
+use Rattle.thread_frames.specs.Indexing.{AreFirst, AreIndexed, Notes, noted, same_key, keys_of, key_of, instances_of}
+use Rattle.instance_index.specs.Index.{IsIndex}
+use Rattle.instance_index.specs.declared.index.InstanceIndex.{InstanceIndex}
 use Rattle.thread_frames.proofs.Maps.{position-map, any-map}
 use Rattle.thread_frames.proofs.Kept.{key}
 
@@ -29,7 +32,7 @@ position-push p xs x =
     ∙ ap (λ o. noted o (p x) (length xs)) (sym (position_from-zero p xs))
 
 -- a key more, which was noted
-pub first_push : (old new : HatIndex) (slot : ℕ) (keys : List Key) (key : Key) → old.is_fresh ≡ true → (new.is_fresh ≡ true → Notes old.slots new.slots key slot) → slot ≡ length keys → AreFirst old keys → AreFirst new (keys ++ key ∷ [])
+pub first_push : (old new : SlotIndex) (slot : ℕ) (keys : List Key) (key : Key) → old.is_fresh ≡ true → (new.is_fresh ≡ true → Notes old.slots new.slots key slot) → slot ≡ length keys → AreFirst old keys → AreFirst new (keys ++ key ∷ [])
 first_push old new slot keys key fresh notes end are = record {
   first = λ new_fresh other.
       notes new_fresh other
@@ -62,11 +65,19 @@ keys_push : (es : List Entry) (e : Entry) → keys_of (es ++ e ∷ []) ≡ keys_
 keys_push [] e = refl
 keys_push (x ∷ xs) e = ap (λ ks. key_of x ∷ ks) (keys_push xs e)
 
-pub key_more : (index : HatIndex) (of hat : ℕ) (e : Entry) (ts us : Places Entry) → us ≡ record { list = ts.list ++ e ∷ []; detached = ts.detached } → of ≡ e.thread.of → hat ≡ e.thread.hat
-    → AreFirst index (keys_of ts.list ++ key of hat ∷ []) → AreFirst index (keys_of us.list)
+pub key_more : (index : Indexes) (of hat : ℕ) (e : Entry) (ts us : Places Entry) → us ≡ record { list = ts.list ++ e ∷ []; detached = ts.detached } → of ≡ e.thread.of → hat ≡ e.thread.hat
+    → AreIndexed index (keys_of ts.list ++ key of hat ∷ []) → AreIndexed index (keys_of us.list)
 key_more index of hat e ts us is same_of same_hat are =
-    subst (AreFirst index)
+    subst (AreIndexed index)
     (ap₂ (λ (o h : ℕ). keys_of ts.list ++ key o h ∷ []) same_of same_hat ∙ sym (keys_push ts.list e) ∙ sym (ap (λ (x : Places Entry). keys_of x.list) is)) are
+
+-- a key more, whose instance was noted
+pub instances_push : (index : InstanceIndex) (keys : List Key) (k : Key) → IsIndex index (instances_of keys ++ k.of ∷ []) → IsIndex index (instances_of (keys ++ k ∷ []))
+instances_push index keys k is = subst (IsIndex index) (sym (pushed keys)) is
+  where
+    pushed : (ks : List Key) → instances_of (ks ++ k ∷ []) ≡ instances_of ks ++ k.of ∷ []
+    pushed [] = refl
+    pushed (x ∷ xs) = ap (λ os. x.of ∷ os) (pushed xs)
 
 -- the first slot of a thread by its number, as entries tell
 pub slot_by_entries : (p : Pool Level) (n : ℕ) (ts : Places Entry) (vs : Places Thread) → seen_all p ts ≡ vs → position (λ e. e.thread.serial == n) ts.list ≡ position (λ t. t.serial == n) vs.list

@@ -15,7 +15,7 @@ use Rattle.thread_frames.specs.Levels.{Level, on_top, without_top, top_context}
 use Rattle.thread_frames.specs.Threads.{Thread, on_levels, levels_of}
 use Rattle.thread_frames.specs.Entries.{Entry, seen, seen_all, entry_with, stacks_of, stack_of}
 use Rattle.thread_frames.specs.Keeping.{IsKept}
-use Rattle.thread_frames.specs.declared.hat_index.HatIndex.{HatIndex}
+use Rattle.thread_frames.specs.declared.indexes.Indexes.{Indexes}
 use Rattle.thread_frames.proofs.Maps.{put_same}
 use Rattle.thread_frames.proofs.Kept.{kept_moved, is_in, is_in_any}
 use Rattle.thread_frames.proofs.Views.{view_moved, view_none, there, levels_seen}
@@ -58,7 +58,7 @@ module _ (p : Pool Level) where
   on_top-is f l [] first = absurd (cc)
   on_top-is f l (x ∷ xs) first = let e : x ≡ l = cc in ap (λ y. f y ∷ xs) (sym e)
 
-  kept_by : (index : HatIndex) (which : Which) (ts : Places Entry) (v : Level) → IsKept p index ts → (o : Option Entry) → at_place which ts ≡ o → 0 < (stack_of o).depth → IsKept (with_top p (stack_of o) v) index ts
+  kept_by : (index : Indexes) (which : Which) (ts : Places Entry) (v : Level) → IsKept p index ts → (o : Option Entry) → at_place which ts ≡ o → 0 < (stack_of o).depth → IsKept (with_top p (stack_of o) v) index ts
   kept_by index which ts v k None found some = absurd (omega (arith, some))
   kept_by index which ts v k (Some e) found some =
       let is = is_in p which e ts k.stand found in
@@ -66,7 +66,7 @@ module _ (p : Pool Level) where
       subst (IsKept (with_top p e.stack v) index) (put_same which e ts found)
       (kept_moved p (with_top p e.stack v) index which e e ts k found moves (omega (arith, moves.count, k.stand.few)) refl)
 
-  pub kept_top : (index : HatIndex) (which : Which) (ts : Places Entry) (s : Stack) (v : Level) → s ≡ stack_of (at_place which ts) → IsKept p index ts → 0 < s.depth → IsKept (with_top p s v) index ts
+  pub kept_top : (index : Indexes) (which : Which) (ts : Places Entry) (s : Stack) (v : Level) → s ≡ stack_of (at_place which ts) → IsKept p index ts → 0 < s.depth → IsKept (with_top p s v) index ts
   kept_top index which ts s v same k some = rw same (kept_by index which ts v k (at_place which ts) refl (omega (arith, some, ap (λ (x : Stack). x.depth) same)))
 
   view_by : (f : Level → Level) (l v : Level) (which : Which) (ts : Places Entry) (vs : Places Thread) → seen_all p ts ≡ vs → Stand most_levels p (stacks_of ts) → (o : Option Entry) → at_place which ts ≡ o → 0 < (stack_of o).depth

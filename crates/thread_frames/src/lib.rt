@@ -3,10 +3,11 @@
 #![tactic(auto)]
 
 mod entry;
-mod hat_index;
+mod indexes;
 mod level;
 mod levels;
 mod parts;
+mod slot_index;
 mod stops;
 mod table;
 mod thread;

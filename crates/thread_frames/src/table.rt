@@ -1,9 +1,10 @@
 //! The threads in their places, each with where its levels stand.
 
-ghost use Rattle.std.specs.Prelude.{◌≡◌, ◌==◌, ◌<◌, ◌∷◌, ◌++◌, [], length, slice_get, slice_set, position, find, filter, not, Some, None, is_some, IsTrue, ◌↔◌, OnOk, OnErr};
+ghost use Rattle.std.specs.Prelude.{◌≡◌, ◌==◌, ◌<◌, ◌≤◌, ◌∷◌, ◌++◌, [], length, map, slice_get, slice_set, position, find, filter, not, Some, None, is_some, IsTrue, ◌↔◌, OnOk, OnErr};
 ghost use Rattle.std.specs.Borrow.{sem};
 ghost use Rattle.std.specs.List.{list_any};
 ghost use Rattle.std.specs.Option.{option_map, option_copied};
+ghost use Rattle.instance_index.specs.Slots.{last_below};
 ghost use Rattle.machine_spec.specs.Places.{Places, at_place, put};
 ghost use Rattle.thread_frames.specs.Entries.{no_entries, none_detached, none_done, is_done_entry, is_entry_of, is_alive_entry_of, stack_of};
 ghost use Rattle.thread_frames.specs.Lending.{LendsEntry};
@@ -23,7 +24,8 @@ pub(crate) struct Table {
 }
 
 impl Model for Table {
-    ghost use Rattle.machine_spec.specs.Places.{Places};
+    ghost use Rattle.instance_index.specs.Slots.{last_below};
+ghost use Rattle.machine_spec.specs.Places.{Places};
     ghost use Rattle.thread_frames.specs.Entries.{Entry};
 
     ghost Value = { Places Entry };
@@ -185,6 +187,21 @@ impl Table {
         self.list
             .iter()
             .position(|entry| entry.thread.of() == of && entry.thread.hat() == hat)
+    }
+
+    // The last slot, below one, whose thread is of the instance.
+    pub(crate) fn last_of(&self, of: InstanceId, below: usize) -> Option<usize>
+        requires { below ≤ length self.now.list }
+        ensures { result ≡ last_below of (map (λ e. e.thread.of) self.now.list) below }
+    {
+        let mut rest = below;
+        while rest > 0 {
+            rest -= 1;
+            if self.list[rest].thread.of() == of {
+                return Some(rest);
+            }
+        }
+        None
     }
 
     // Whether a listed thread of the instance and the hat is not done.

@@ -1,6 +1,7 @@
 //! Threads that end.
 
-ghost use Rattle.std.specs.Prelude.{◌≡◌, ℕ, [], true, Some, slice_get};
+ghost use Rattle.std.specs.Prelude.{◌≡◌, ℕ, [], true, map, length, Some, slice_get};
+ghost use Rattle.instance_index.specs.Slots.{last_below};
 ghost use Rattle.machine_spec.specs.Places.{on_place};
 ghost use Rattle.machine_spec.specs.Starting.{finished_of, is_spared as is_spared_by};
 ghost use Rattle.thread_frames.specs.Threads.{frames, no_threads, without_detached, without_done, with_status, levels_of, finish as finished};
@@ -33,12 +34,48 @@ impl Threads {
         entry.thread = entry.thread.with_status(Status::Done);
     }
 
-    /// Makes the listed threads of an instance done, but for the one at a place.
+    /// Makes the listed threads of an instance done, but for the one at a place. It takes no memory.
     pub fn stop_of(&mut self, of: InstanceId, except: Option<Which>)
         ensures { self.new ≡ finished_of frames except of self.old }
     {
-        for slot in 0..self.len() {
-            self.stop_at(slot, of, except);
+        self.note_search();
+        let mut next = self.last_of(of);
+        while let Some(slot) = next {
+            next = self.earlier_of(of, slot);
+            self.stop_at(slot as u64, of, except);
+        }
+    }
+
+    // The threads of an instance are searched for; a list that is searched often without the index is looked through later.
+    #[inline]
+    fn note_search(&mut self)
+        ensures { self.new ≡ self.old }
+    {
+        if !self.index.instances.is_fresh() {
+            self.index.instances.note_search();
+        }
+    }
+
+    // The last slot of a thread of the instance.
+    fn last_of(&self, of: InstanceId) -> Option<usize>
+        ensures { result ≡ last_below of (map (λ t. t.of) self.now.list) (length self.now.list) }
+    {
+        if self.index.instances.is_fresh() {
+            self.index.instances.last(of.0)
+        } else {
+            self.table.last_of(of, self.table.list().len())
+        }
+    }
+
+    // The slot of the thread of the instance before one.
+    fn earlier_of(&self, of: InstanceId, slot: usize) -> Option<usize>
+        requires { slice_get (map (λ t. t.of) self.now.list) slot ≡ Some of }
+        ensures { result ≡ last_below of (map (λ t. t.of) self.now.list) slot }
+    {
+        if self.index.instances.is_fresh() {
+            self.index.instances.earlier(slot)
+        } else {
+            self.table.last_of(of, slot)
         }
     }
 

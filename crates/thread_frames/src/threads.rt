@@ -10,7 +10,7 @@ ghost use Rattle.machine_spec.specs.Starting.{open_levels};
 ghost use Rattle.thread_frames.specs.Levels.{near_params};
 ghost use Rattle.thread_frames.specs.Threads.{frames, listed, no_threads, is_of, is_alive_of, levels_of, bare};
 
-use crate::hat_index::HatIndex;
+use crate::indexes::Indexes;
 use crate::level::Level;
 use crate::levels::{Levels, params_in};
 use crate::table::Table;
@@ -28,7 +28,7 @@ use std::marker::Model;
 pub struct Threads {
     pub(crate) table: Table,
     pub(crate) pool: Pool<Level>,
-    pub(crate) index: HatIndex,
+    pub(crate) index: Indexes,
 }
 
 // Not derived: whoever holds one calls this, and does not prove anew how it is taken apart.
@@ -63,7 +63,7 @@ impl Threads {
         Ok(Threads {
             table: Table::new(alloc),
             pool: Pool::new(alloc, MOST_LEVELS)?,
-            index: HatIndex::new(alloc),
+            index: Indexes::new(alloc),
         })
     }
 
@@ -162,8 +162,8 @@ impl Threads {
     pub fn slot_of_hat(&self, of: InstanceId, hat: BlockId) -> Option<u64>
         ensures { result ≡ position (is_of of hat) self.now.list }
     {
-        if self.index.is_fresh() {
-            return self.index.slot(of, hat);
+        if self.index.hats.is_fresh() {
+            return self.index.hats.slot(of, hat);
         }
         match self.table.slot_of_hat(of, hat) {
             Some(slot) => Some(slot as u64),
@@ -172,7 +172,8 @@ impl Threads {
     }
 
     /// A hat is searched for next, by `slot_of_hat` or `is_any_alive`. A list that is searched often is looked through once,
-    /// and a search of it takes no longer with more threads from then on, until threads leave the list.
+    /// and a search of it takes no longer with more threads from then on, until threads leave the list; so it is for the
+    /// threads of an instance, which `stop_of` searches for.
     #[inline]
     pub fn prepare_search(&mut self)
         ensures { self.new ≡ self.old }

@@ -1,7 +1,7 @@
 use Rattle.std.proofs.Common.{◌∙◌, refl}
 use Rattle.machine_spec.specs.Places.{Places}
 use Rattle.thread_frames.specs.Entries.{Entry}
-use Rattle.thread_frames.specs.Indexing.{AreFirst, keys_of, key_of}
+use Rattle.thread_frames.specs.Indexing.{AreIndexed, keys_of, key_of}
 use Rattle.thread_frames.proofs.Kept.{key}
 use Rattle.thread_frames.proofs.Keys.{key_more, seen_end}
 use Rattle.thread_frames.proofs.Removing.{Stand-more}
@@ -10,6 +10,6 @@ use Rattle.thread_frames.proofs.threads.Threads.add.Goals as goal
 pub invariant_of-self-2 : goal.invariant_of-self-2
 invariant_of-self-2 c = record {
   stand = Stand-more c.self.inside.pool (record { thread = c.args.thread; stack = record { top = 0; depth = 0 } }) c.self.inside.table _ refl c.self.invariant.stand c.in_ok-append.ensures.ok;
-  first = key_more _ _ _ (record { thread = c.args.thread; stack = record { top = 0; depth = 0 } }) c.self.inside.table _ c.in_ok-append.ensures.ok c.of.ensures c.hat.ensures
-      (c.append-2.ensures (keys_of c.self.inside.table.list) (c.len-slot.ensures ∙ seen_end c.self.inside.pool c.self.inside.table _ c.self.view_is) c.self.invariant.first);
+  indexed = key_more _ _ _ (record { thread = c.args.thread; stack = record { top = 0; depth = 0 } }) c.self.inside.table _ c.in_ok-append.ensures.ok c.of.ensures c.hat.ensures
+      (c.append-2.ensures (keys_of c.self.inside.table.list) (c.len-slot.ensures ∙ seen_end c.self.inside.pool c.self.inside.table _ c.self.view_is) c.self.invariant.indexed);
 }

@@ -4,7 +4,7 @@ use Rattle.thread_frames.proofs.threads.Threads.forget_done.Goals as goal
 pub invariant_of-self : goal.invariant_of-self
 invariant_of-self c = record {
   stand = Stand-alive c.self.inside.pool c.self.inside.table _ _ c.self.invariant.stand c.self.view_is c.requires c.remove_done.ensures;
-  first = c.forget.ensures _;
+  indexed = c.forget.ensures _;
 }
 
 pub returns : goal.returns

@@ -1,7 +1,7 @@
 //! Where the first thread of each hat stands.
 
 ghost use Rattle.std.specs.Prelude.{◌≡◌, ◌∷◌, ◌++◌, [], List, length, true, false, position};
-ghost use Rattle.thread_frames.specs.declared.hat_index.Key.{Key as Known};
+ghost use Rattle.thread_frames.specs.declared.slot_index.Key.{Key as Known};
 ghost use Rattle.thread_frames.specs.Indexing.{AreFirst, Notes, same_key, keys_of};
 
 use crate::entry::Entry;
@@ -34,18 +34,18 @@ impl Key {
 
 // The first slot of each hat that has a thread in a list, while it is fresh. Else it tells nothing.
 #[derive(Debug, Drop)]
-pub(crate) struct HatIndex {
+pub(crate) struct SlotIndex {
     slots: HashMap<Key, u64>,
     is_fresh: bool,
     searches: u32,
 }
 
-impl HatIndex {
+impl SlotIndex {
     // That of an empty list.
-    pub(crate) fn new(alloc: Global) -> HatIndex
+    pub(crate) fn new(alloc: Global) -> SlotIndex
         ensures { AreFirst result [] }
     {
-        HatIndex {
+        SlotIndex {
             slots: HashMap::new(alloc),
             is_fresh: true,
             searches: 0,

@@ -1,8 +1,8 @@
 use Rattle.std.proofs.Common.{subst}
-use Rattle.thread_frames.specs.declared.hat_index.Key.{Key}
+use Rattle.thread_frames.specs.declared.slot_index.Key.{Key}
 use Rattle.thread_frames.specs.Indexing.{Notes}
 use Rattle.thread_frames.proofs.Keys.{first_push}
-use Rattle.thread_frames.proofs.hat_index.HatIndex.append.Goals as goal
+use Rattle.thread_frames.proofs.slot_index.SlotIndex.append.Goals as goal
 
 pub returns-then-self : goal.returns-then-self
 returns-then-self c = λ keys end are.
