@@ -1,8 +1,6 @@
 -- The levels that call a procedure are the markers that do.
-use Rattle.std.proofs.Common.{◌≡◌, ℕ, zero, suc, ◌+◌, ◌-◌, ◌<◌, ◌≤◌, Bool, false, List, [], ◌∷◌, ◌++◌, length, drop, get_or, Option, Some, None, refl, sym, ap, ◌∙◌, subst, arith, add-one}
+use Rattle.std.proofs.Common.{◌≡◌, ℕ, suc, Bool, false, List, [], ◌∷◌, ◌++◌, Option, Some, None, refl, sym, ap, ◌∙◌, subst}
 use Rattle.std.specs.Prelude.{slice_get, ◌||◌, ◌&&◌, bytes_eq}
-use Rattle.std.proofs.Math.Seq.{drop-cons}
-use Rattle.std.proofs.lemmas.Option.{slice_get_within, get_or_from_slice_get}
 use Rattle.machine_spec.specs.Script.{Script, End, Then}
 use Rattle.machine_spec.specs.Keeping.{is_called}
 use Rattle.machine_spec.specs.Pending.{Item, dos, is_recursive}
@@ -10,7 +8,8 @@ use Rattle.project_spec.specs.declared.blocks.Block.{Block}
 use Rattle.project_spec.specs.Trees.{Sheet, target_of_link, script, statement, call_code}
 use Rattle.thread_frames.specs.declared.level.Level.{Level}
 use Rattle.thread_frames.specs.Reading.{params_in, first_item, marker, block_items, items_at, beneath, pending}
-use Rattle.thread_frames.specs.Fit.{kind_of, IsUnder, AllUnder, AreStacked}
+use Rattle.thread_frames.specs.Fit.{kind_of, IsUnder, AllUnder}
+use Rattle.thread_frames.specs.Levels.{without_top}
 use Rattle.thread_moves.proofs.Fits.{under_marker}
 use Rattle.thread_moves.proofs.Items.{first_is, at_block}
 
@@ -30,7 +29,8 @@ module _ (sheet : Sheet) (code : List ℕ) where
           let after = rec_dos n (script sheet (target_of_link b.next)) r in
           first_is (λ x. is_recursive code n (x ∷ dos (script sheet (target_of_link b.next)) ++ r) ≡ is_recursive code n r) l.is_loop l.context (params_in l) (statement sheet i b) after (λ c. after) after
 
-  pub rec_start : (levels : List Level) → is_recursive code 6 (pending sheet levels) ≡ is_recursive code 6 (beneath sheet (drop 1 levels))
+  -- nor does it count where the levels under it are looked at
+  pub rec_start : (levels : List Level) → is_recursive code 6 (pending sheet levels) ≡ is_recursive code 6 (beneath sheet (without_top levels))
   rec_start [] = refl
   rec_start (t ∷ ls) = rec_first 6 t t.block (beneath sheet ls)
 
@@ -41,27 +41,6 @@ module _ (sheet : Sheet) (code : List ℕ) where
       let r : List Item = dos (script sheet (target_of_link u.block.next)) ++ beneath sheet ls in
       ap (λ x. is_recursive code 0 (x ++ beneath sheet ls)) (at_block sheet (marker l) l.block u.id u.block u.holds u.found)
       ∙ under_marker (λ x. is_recursive code 0 (x ∷ r) ≡ false) l.context l.is_loop (kind_of u.block) (params_in l) l.warp (statement sheet u.id u.block) u.fits (λ k m. refl) (λ k. refl) (λ k. refl)
-
-  under_at : (ls : List Level) (i : ℕ) (l : Level) → AllUnder sheet ls → slice_get ls i ≡ Some l → IsUnder sheet l
-  under_at [] i l h e = absurd (cc e)
-  under_at (x ∷ ls) zero l h e = let same : x ≡ l = cc e in subst (IsUnder sheet) same h.0
-  under_at (x ∷ ls) (suc i) l h e = under_at ls i l h.1 e
-
-  pub stacked_at : (levels : List Level) (j : ℕ) (l : Level) → AreStacked sheet levels → 1 ≤ j → slice_get levels j ≡ Some l → IsUnder sheet l
-  stacked_at [] j l h le e = absurd (cc e)
-  stacked_at (t ∷ ls) zero l h le e = absurd (omega (arith, le))
-  stacked_at (t ∷ ls) (suc i) l h le e = under_at ls i l h.under e
-
-  all_under : (ls : List Level) (i : ℕ) → AllUnder sheet ls → AllUnder sheet (drop i ls)
-  all_under ls zero h = h
-  all_under [] (suc i) h = tt
-  all_under (x ∷ ls) (suc i) h = all_under ls i h.1
-
-  pub stacked_drop : (levels : List Level) (j : ℕ) → AreStacked sheet levels → 1 ≤ j → AllUnder sheet (drop j levels)
-  stacked_drop [] zero h le = tt
-  stacked_drop [] (suc j) h le = tt
-  stacked_drop (t ∷ ls) zero h le = absurd (omega (arith, le))
-  stacked_drop (t ∷ ls) (suc i) h le = all_under ls i h.under
 
   rec_under : (n : ℕ) (l : Level) (ls : List Level) (u : IsUnder sheet l) → is_recursive code (suc n) (beneath sheet (l ∷ ls)) ≡ (is_called l.context && bytes_eq (call_code u.block.mutation) code || is_recursive code n (beneath sheet ls))
   rec_under n l ls u =
@@ -75,26 +54,22 @@ module _ (sheet : Sheet) (code : List ℕ) where
       (λ k. ap (λ x. x && calls || is_recursive code n r) (sym k))
       ∙ ap (λ x. is_called l.context && calls || x) (rec_dos n (script sheet (target_of_link u.block.next)) (beneath sheet ls))
 
-  pub rec_step : (levels : List Level) (j : ℕ) (l : Level) (u : IsUnder sheet l) → 1 ≤ j → j < 7 → slice_get levels j ≡ Some l → is_recursive code (7 - j) (beneath sheet (drop j levels)) ≡ (is_called l.context && bytes_eq (call_code u.block.mutation) code || is_recursive code (7 - (j + 1)) (beneath sheet (drop (j + 1) levels)))
-  rec_step levels j l u le lt e =
-      let within : j < length levels = slice_get_within levels j l e in
-      let item : get_or levels j l ≡ l = get_or_from_slice_get levels j l l e in
-      let here : drop j levels ≡ l ∷ drop (j + 1) levels = drop-cons levels j l within ∙ ap (λ x. x ∷ drop (suc j) levels) item ∙ ap (λ n. l ∷ drop n levels) (sym (add-one j)) in
-      let more : 7 - j ≡ suc (7 - (j + 1)) = omega arith in
-      ap (λ n. is_recursive code n (beneath sheet (drop j levels))) more
-      ∙ ap (λ x. is_recursive code (suc (7 - (j + 1))) (beneath sheet x)) here
-      ∙ rec_under (7 - (j + 1)) l (drop (j + 1) levels) u
+  -- the nearest of the levels, and those under it
 
-  get_past : (levels : List Level) (j : ℕ) → slice_get levels j ≡ None → length levels ≤ j
-  get_past [] j e = omega arith
-  get_past (x ∷ levels) zero e = absurd (cc e)
-  get_past (x ∷ levels) (suc j) e = omega (arith, get_past levels j e)
+  pub under_first : (ls : List Level) (l : Level) → AllUnder sheet ls → slice_get ls 0 ≡ Some l → IsUnder sheet l
+  under_first [] l h e = absurd (cc e)
+  under_first (x ∷ ls) l h e = let same : x ≡ l = cc e in subst (IsUnder sheet) same h.0
 
-  past : (levels : List Level) (j n : ℕ) → length levels ≤ j → is_recursive code n (beneath sheet (drop j levels)) ≡ false
-  past [] zero n h = refl
-  past [] (suc j) n h = refl
-  past (t ∷ ls) zero n h = absurd (omega (arith, h))
-  past (t ∷ ls) (suc j) n h = past ls j n (omega (arith, h))
+  pub under_rest : (ls : List Level) → AllUnder sheet ls → AllUnder sheet (without_top ls)
+  under_rest [] h = h
+  under_rest (x ∷ ls) h = h.1
 
-  pub rec_past : (levels : List Level) (j n : ℕ) → slice_get levels j ≡ None → is_recursive code n (beneath sheet (drop j levels)) ≡ false
-  rec_past levels j n e = past levels j n (get_past levels j e)
+  pub rec_step : (n : ℕ) (ls : List Level) (l : Level) (u : IsUnder sheet l) → slice_get ls 0 ≡ Some l → is_recursive code (suc n) (beneath sheet ls) ≡ (is_called l.context && bytes_eq (call_code u.block.mutation) code || is_recursive code n (beneath sheet (without_top ls)))
+  rec_step n [] l u e = absurd (cc e)
+  rec_step n (x ∷ ls) l u e =
+      let same : x ≡ l = cc e in
+      ap (λ y. is_recursive code (suc n) (beneath sheet (y ∷ ls))) same ∙ rec_under n l ls u
+
+  pub rec_none : (n : ℕ) (ls : List Level) → slice_get ls 0 ≡ None → is_recursive code n (beneath sheet ls) ≡ false
+  rec_none n [] e = refl
+  rec_none n (x ∷ ls) e = absurd (cc e)

@@ -23,7 +23,7 @@ fn leave(project: &Project, target: TargetId, threads: &mut Threads, which: Whic
     ensures only { OnlyLevels which threads.old threads.new }
 {
     threads.pop(which);
-    let top = match threads.level(which, 0) {
+    let top = match threads.top(which) {
         Some(top) => top,
         None => return Some(Report::Ended),
     };
@@ -53,7 +53,7 @@ pub(crate) fn settle(
     ensures fewer { length (levels_at which threads.new) ≤ length (levels_at which threads.old) }
     ensures only { OnlyLevels which threads.old threads.new }
 {
-    while let Some(top) = threads.level(which, 0) {
+    while let Some(top) = threads.top(which) {
         if top.block.is_some() {
             return Report::Go;
         }

@@ -31,7 +31,7 @@ use thread_frames::{PushStop, Threads};
 pub fn is_warp(threads: &Threads, which: Which) -> bool
     ensures { result ≡ warp_flag (levels_at which threads.now) }
 {
-    match threads.level(which, 0) {
+    match threads.top(which) {
         Some(top) => top.warp,
         None => false,
     }

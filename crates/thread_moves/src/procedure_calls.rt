@@ -59,8 +59,9 @@ fn is_recursive(
     requires { AreStacked (sheet_at target project.now) (levels_at which threads.now) }
     ensures { result ≡ machine.is_recursive code.now 6 (pending (sheet_at target project.now) (levels_at which threads.now)) }
 {
-    for from_top in 1..7 {
-        match threads.level(which, from_top) {
+    let mut rest = threads.levels_at(which).under();
+    for looked_at in 0..6 {
+        match rest.top() {
             Some(level) => {
                 if has_called(project, target, level, code) {
                     return true;
@@ -68,6 +69,7 @@ fn is_recursive(
             }
             None => return false,
         }
+        rest = rest.under();
     }
     false
 }

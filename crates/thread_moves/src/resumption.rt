@@ -22,7 +22,7 @@ use thread_frames::{PushStop, Threads};
 fn top_block(threads: &Threads, which: Which) -> Option<BlockId>
     ensures { result ≡ levels_of.top_block (levels_at which threads.now) }
 {
-    match threads.level(which, 0) {
+    match threads.top(which) {
         Some(top) => top.block,
         None => None,
     }

@@ -9,7 +9,7 @@ pub loop-top-init : goal.loop-top-init
 loop-top-init c = record { alike = record { fit = c.requires.fit; same = refl }; fewer = omega arith; only = only_self c.args.which c.args.threads.now }
 
 pub returns-then-is_some-clause-at : goal.returns-then-is_some-clause-at
-returns-then-is_some-clause-at c = settled_is _ _ _ _ c.loop-top.invariant.alike (sym c.level.ensures ∙ ap option_copied c.in-Some.is) (sym c.is_some.ensures ∙ c.if-is_some.true)
+returns-then-is_some-clause-at c = settled_is _ _ _ _ c.loop-top.invariant.alike (sym c.top.ensures ∙ ap option_copied c.in-Some.is) (sym c.is_some.ensures ∙ c.if-is_some.true)
 
 pub returns-in-Some-leave-clause-only : goal.returns-in-Some-leave-clause-only
 returns-in-Some-leave-clause-only c = only_then c.args.which _ _ _ c.loop-top.invariant.only c.leave.ensures.only
