@@ -75,7 +75,7 @@ impl<R: Rng + Drop> State<R> {
         let count = &mut self.next_thread;
         match start(
             alloc,
-            project,
+            project.hat_index(),
             &self.targets,
             threads,
             count,

@@ -28,9 +28,10 @@ impl<R: Rng + Drop> State<R> {
         ensures kept { IfOk result (λ _. IsIdle project.now self.new) }
         ensures stop { StopIs result (machine.started (program_of project.now) hats.now (seen R.stream project.now self.old)) }
     {
+        let index = project.hat_index();
         let threads = &mut self.threads;
         let count = &mut self.next_thread;
-        match start(alloc, project, &self.targets, threads, count, None, hats) {
+        match start(alloc, index, &self.targets, threads, count, None, hats) {
             Ok(serials) => {
                 forget(serials);
                 Ok(())

@@ -18,9 +18,9 @@ use Rattle.thread_frames.specs.Threads.{Thread, frames, begins_with}
 use Rattle.hats.specs.declared.hat_threads.Hat.{Hat}
 use Rattle.hats.specs.Edges.{EdgeHat}
 use Rattle.hats.specs.Heads.{target_of, IsEdgeOf}
-use Rattle.hats.specs.Started.{started}
+use Rattle.hats.specs.Started.{hat_in, started}
 use Rattle.hats.proofs.Begins.{begins-next, next-held}
-use Rattle.hats.proofs.Outcomes.{all-one, hat_in, started-pair}
+use Rattle.hats.proofs.Outcomes.{all-one, started-pair}
 
 module _ (p : Project) (edge : EdgeHat) (x : Pair) (is : IsEdgeOf p edge x) where
   target_is : target_of x ≡ edge.target

@@ -1,5 +1,5 @@
 -- Every hat that is started, or is tried at an edge, heads a script of its instance's target.
-use Rattle.std.proofs.Common.{◌≡◌, ℕ, suc, ◌+◌, ◌<◌, ◌≤◌, ◌⊎◌, inl, inr, Bool, true, false, List, [], ◌∷◌, ◌++◌, length, map, reverse, Some, None, refl, ap, ◌∙◌, arith}
+use Rattle.std.proofs.Common.{◌≡◌, ℕ, suc, ◌+◌, ◌<◌, ◌≤◌, ◌⊎◌, inl, inr, Bool, true, false, ◌&&◌, not, List, [], ◌∷◌, ◌++◌, length, map, reverse, Some, None, refl, ap, ◌∙◌, arith}
 use Rattle.std.specs.Prelude.{All, Contains, slice_get, filter, flat_map, if◌then◌else◌}
 use Rattle.std.specs.List.{enumerate_from, cons_option, filter_map}
 use Rattle.std.proofs.lemmas.Bool.{cases_lt}
@@ -12,7 +12,7 @@ use Rattle.machine_spec.specs.Script.{Statement}
 use Rattle.machine_spec.specs.declared.threads.Filter.{Filter}
 use Rattle.machine_spec.specs.declared.threads.Filter.TheVariants.{Broadcast, Backdrop, Key, Flag, CloneStart, Clicked}
 use Rattle.machine_spec.specs.Program.{Head}
-use Rattle.machine_spec.specs.Starting.{meant, pairs_of, pairs, starts}
+use Rattle.machine_spec.specs.Starting.{meant, pairs_of, pairs, starts, fits_hat, is_stage_hat_of}
 use Rattle.project_spec.specs.declared.blocks.Block.{Block}
 use Rattle.project_spec.specs.Linked.{has_role, is_head}
 use Rattle.project_spec.specs.Trees.{Sheet, target_of_link, head_of, hat_at, heads_of}
@@ -23,7 +23,6 @@ use Rattle.machine_spec.specs.Places.{Places}
 use Rattle.thread_frames.specs.Threads.{Thread}
 use Rattle.hats.specs.Edges.{is_edge, free_edges}
 use Rattle.hats.specs.Heads.{IsHeadOf}
-use Rattle.hats.specs.Fitting.{in_round}
 use Rattle.hats.proofs.Begins.{script-begins}
 use Rattle.hats.proofs.Rounds.{none_past}
 
@@ -111,8 +110,10 @@ module _ (p : Project) (is : List Instance) where
   -- the hats that a filter starts
   pub starts-headed : (f : Filter) → All (IsHeadOf p is) (starts (program_of p) f is)
   starts-headed f =
-      All-append (IsHeadOf p is) (pairs (program_of p) (in_round false f) (meant f is)) (pairs (program_of p) (in_round true f) (meant f is))
-      (pairs-headed (in_round false f) (meant f is) (meant_listed f)) (pairs-headed (in_round true f) (meant f is) (meant_listed f))
+      let first : Statement → Bool = λ s. fits_hat f s && not (is_stage_hat_of s) in
+      let second : Statement → Bool = λ s. fits_hat f s && is_stage_hat_of s in
+      All-append (IsHeadOf p is) (pairs (program_of p) first (meant f is)) (pairs (program_of p) second (meant f is))
+      (pairs-headed first (meant f is) (meant_listed f)) (pairs-headed second (meant f is) (meant_listed f))
 
   -- the edge hats that are evaluated
   pub edges-headed : (ts : Places Thread) → All (IsHeadOf p is) (free_edges (program_of p) is ts)

@@ -3,9 +3,8 @@ mod Walks
 mod Outcomes
 mod Turns
 mod Entering
-mod Fitted
-mod Blocks
 mod Rounds
+mod Indexing
 mod Edging
 pub mod Fired
 pub mod Headed

@@ -1,18 +1,19 @@
 -- Starting in turn, part by part.
-use Rattle.std.proofs.Common.{◌≡◌, ℕ, Bool, true, false, ◌&&◌, not, List, [], ◌∷◌, ◌++◌, Option, Err, refl, sym, ap, ◌∙◌, position}
+use Rattle.std.proofs.Common.{◌≡◌, ℕ, Bool, true, false, ◌&&◌, not, List, [], ◌∷◌, ◌++◌, map, Option, Err, refl, sym, ap, ◌∙◌, position}
 use Rattle.std.specs.Prelude.{flat_map, if◌then◌else◌}
 use Rattle.std.specs.List.{list_any}
 use Rattle.std.proofs.lemmas.List.Concat.{flat_map-cons}
 use Rattle.script_words.specs.declared.stops.Stop.{Stop}
 use Rattle.script_words.specs.declared.stops.Stop.TheVariants as stops
 use Rattle.opcode_table.specs.Kinds.{hat_kind}
-use Rattle.machine_spec.specs.Script.{place_of, op_of}
+use Rattle.machine_spec.specs.Script.{op_of}
 use Rattle.machine_spec.specs.Program.{hat_block}
 use Rattle.machine_spec.specs.Outcome.{Outcome, Goes, Full, TooLong, Spent, then_do, StopIs}
+use Rattle.machine_spec.specs.Places.{Places}
 use Rattle.machine_spec.specs.Starting.{Handle, Pair, Crowd, restarts, placed, appended, joined, start_by, ignored_or_appended, start_one, start_all}
-use Rattle.thread_frames.specs.Threads.{Thread, frames, is_of, is_alive_of, begins_with}
+use Rattle.thread_frames.specs.Threads.{Thread, frames, is_of, is_alive_of}
 use Rattle.hats.specs.declared.hat_threads.Hat.{Hat}
-use Rattle.hats.specs.Started.{new_of, started}
+use Rattle.hats.specs.Started.{hat_in, new_of, started, started_all}
 
 -- Outcomes
 
@@ -49,41 +50,37 @@ stop-same T U stops.NoMemory o x e h = tt
 
 -- Lists of hats
 
-module _ {A : Type 0} (k : Handle A) (running : Option ℕ) where
-  pub all-append : (xs ys : List Pair) (c : Crowd A) → start_all k running (xs ++ ys) c ≡ then_do (start_all k running xs c) (start_all k running ys)
+module _ (running : Option ℕ) where
+  all-append : (xs ys : List Hat) (c : Crowd Thread) → started_all running (xs ++ ys) c ≡ then_do (started_all running xs c) (started_all running ys)
   all-append [] ys c = refl
   all-append (x ∷ xs) ys c =
-      then_same (start_one k running x c) (start_all k running (xs ++ ys)) (λ d. then_do (start_all k running xs d) (start_all k running ys)) (λ d. all-append xs ys d)
-      ∙ sym (then_then (start_one k running x c) (start_all k running xs) (start_all k running ys))
-
-  pub all-one : (x : Pair) (c : Crowd A) → start_all k running (x ∷ []) c ≡ start_one k running x c
-  all-one x c = then_goes (start_one k running x c)
+      then_same (started running x c) (started_all running (xs ++ ys)) (λ d. then_do (started_all running xs d) (started_all running ys)) (λ d. all-append xs ys d)
+      ∙ sym (then_then (started running x c) (started_all running xs) (started_all running ys))
 
   -- the first part has gone well
-  pub all-more : (xs ys : List Pair) (c d : Crowd A) → start_all k running xs c ≡ Goes d → start_all k running (xs ++ ys) c ≡ start_all k running ys d
-  all-more xs ys c d e = all-append xs ys c ∙ ap (λ o. then_do o (start_all k running ys)) e
+  pub all-more : (xs ys : List Hat) (c d : Crowd Thread) → started_all running xs c ≡ Goes d → started_all running (xs ++ ys) c ≡ started_all running ys d
+  all-more xs ys c d e = all-append xs ys c ∙ ap (λ o. then_do o (started_all running ys)) e
 
   -- it stopped
-  pub all-stop : (T U : Type 0) (s : Stop) (xs ys : List Pair) (c : Crowd A) → StopIs {T = T} (Err s) (start_all k running xs c) → StopIs {T = U} (Err s) (start_all k running (xs ++ ys) c)
+  pub all-stop : (T U : Type 0) (s : Stop) (xs ys : List Hat) (c : Crowd Thread) → StopIs {T = T} (Err s) (started_all running xs c) → StopIs {T = U} (Err s) (started_all running (xs ++ ys) c)
   all-stop T U s xs ys c h =
-      stop-same U U s (then_do (start_all k running xs c) (start_all k running ys)) (start_all k running (xs ++ ys) c) (sym (all-append xs ys c))
-      (stop-first T U s (start_all k running xs c) (start_all k running ys) h)
+      stop-same U U s (then_do (started_all running xs c) (started_all running ys)) (started_all running (xs ++ ys) c) (sym (all-append xs ys c))
+      (stop-first T U s (started_all running xs c) (started_all running ys) h)
 
   -- the same for a list that is made part by part
-  module _ {B : Type 0} (f : B → List Pair) where
-    pub each-more : (b : B) (bs : List B) (c d : Crowd A) → start_all k running (f b) c ≡ Goes d → start_all k running (flat_map f (b ∷ bs)) c ≡ start_all k running (flat_map f bs) d
-    each-more b bs c d e = ap (λ xs. start_all k running xs c) (flat_map-cons f b bs) ∙ all-more (f b) (flat_map f bs) c d e
+  module _ {B : Type 0} (f : B → List Hat) where
+    pub each-more : (b : B) (bs : List B) (c d : Crowd Thread) → started_all running (f b) c ≡ Goes d → started_all running (flat_map f (b ∷ bs)) c ≡ started_all running (flat_map f bs) d
+    each-more b bs c d e = ap (λ xs. started_all running xs c) (flat_map-cons f b bs) ∙ all-more (f b) (flat_map f bs) c d e
 
-    pub each-stop : (T U : Type 0) (s : Stop) (b : B) (bs : List B) (c : Crowd A) → StopIs {T = T} (Err s) (start_all k running (f b) c) → StopIs {T = U} (Err s) (start_all k running (flat_map f (b ∷ bs)) c)
+    pub each-stop : (T U : Type 0) (s : Stop) (b : B) (bs : List B) (c : Crowd Thread) → StopIs {T = T} (Err s) (started_all running (f b) c) → StopIs {T = U} (Err s) (started_all running (flat_map f (b ∷ bs)) c)
     each-stop T U s b bs c h =
-        stop-same U U s (start_all k running (f b ++ flat_map f bs) c) (start_all k running (flat_map f (b ∷ bs)) c) (ap (λ xs. start_all k running xs c) (sym (flat_map-cons f b bs)))
+        stop-same U U s (started_all running (f b ++ flat_map f bs) c) (started_all running (flat_map f (b ∷ bs)) c) (ap (λ xs. started_all running xs c) (sym (flat_map-cons f b bs)))
         (all-stop T U s (f b) (flat_map f bs) c h)
 
--- One hat
+-- Hats as the machine has them
 
--- a pair, as the code has it at hand
-abbrev pub hat_in : Pair → Hat
-hat_in x = record { of = x.of; target = (place_of x.head.hat).target; block = hat_block x.head; first = begins_with x.head.script; restarts = restarts (hat_kind (op_of x.head.hat)) }
+pub all-one : {A : Type 0} (k : Handle A) (running : Option ℕ) (x : Pair) (c : Crowd A) → start_all k running (x ∷ []) c ≡ start_one k running x c
+all-one k running x c = then_goes (start_one k running x c)
 
 by_alive : (alive : Bool) (x : Pair) (c : Crowd Thread) → (if alive then Goes c else joined c (appended frames (new_of (hat_in x) c.next) c.threads)) ≡ ignored_or_appended alive frames x c
 by_alive true x c = refl
@@ -98,3 +95,17 @@ by_kind false running x c = by_alive (list_any (is_alive_of x.of (hat_block x.he
 
 pub started-pair : (running : Option ℕ) (x : Pair) (c : Crowd Thread) → started running (hat_in x) c ≡ start_one frames running x c
 started-pair running x c = by_kind (restarts (hat_kind (op_of x.head.hat))) running x c
+
+-- all of them are started as the machine starts them
+pub started-pairs : (running : Option ℕ) (xs : List Pair) (c : Crowd Thread) → started_all running (map hat_in xs) c ≡ start_all frames running xs c
+started-pairs running [] c = refl
+started-pairs running (x ∷ xs) c =
+    ap (λ o. then_do o (started_all running (map hat_in xs))) (started-pair running x c)
+    ∙ then_same (start_one frames running x c) (started_all running (map hat_in xs)) (start_all frames running xs) (λ d. started-pairs running xs d)
+
+-- from the first number on
+pub given-starts : (running : Option ℕ) (xs : List Pair) (hs : List Hat) (ts : Places Thread) (next : ℕ) (none : List ℕ) → map hat_in xs ≡ hs → none ≡ []
+    → start_all frames running xs (record { threads = ts; next = next; serials = [] }) ≡ started_all running hs (record { threads = ts; next = next; serials = none })
+given-starts running xs hs ts next none e f =
+    sym (started-pairs running xs (record { threads = ts; next = next; serials = [] }))
+    ∙ (λ j. started_all running (e j) (record { threads = ts; next = next; serials = sym f j }))

@@ -1,24 +1,27 @@
--- The rounds of a start against the hats that a filter starts.
-use Rattle.std.proofs.Common.{◌≡◌, ℕ, suc, ◌+◌, ◌≤◌, Bool, true, false, cond, ◌&&◌, List, [], ◌∷◌, ◌++◌, length, map, reverse, refl, sym, ap, ◌∙◌, arith}
+-- The rounds of a start, and instances whose target is not there.
+use Rattle.std.proofs.Common.{◌≡◌, ℕ, suc, ◌+◌, ◌≤◌, Bool, true, false, cond, List, [], ◌∷◌, ◌++◌, length, map, option_map, reverse, Some, None, refl, sym, ap, ◌∙◌, arith}
 use Rattle.std.specs.Prelude.{filter, flat_map, unwrap_or, nat_lt}
 use Rattle.std.specs.List.{enumerate_from}
+use Rattle.std.specs.Option.{option_map_or}
 use Rattle.std.proofs.lemmas.List.{length-map, reverse-append, append-nil}
 use Rattle.std.proofs.lemmas.List.Concat.{flat_map-cons}
 use Rattle.std.proofs.lemmas.List.Elements.{filter-append}
 use Rattle.std.proofs.lemmas.Option.{slice_get_past}
+use Rattle.opcode_table.specs.declared.opcode.Opcode.{Opcode}
 use Rattle.machine_spec.specs.declared.instance.Instance.{Instance}
 use Rattle.machine_spec.specs.Script.{Statement}
 use Rattle.machine_spec.specs.declared.threads.Filter.{Filter}
 use Rattle.machine_spec.specs.declared.threads.Filter.TheVariants.{Broadcast, Backdrop, Key, Flag, CloneStart, Clicked}
-use Rattle.machine_spec.specs.Program.{Program, Scripts, scripts_at}
-use Rattle.machine_spec.specs.Starting.{meant, pairs_of, pairs}
+use Rattle.machine_spec.specs.Program.{Scripts}
+use Rattle.machine_spec.specs.Starting.{meant, pairs_of}
 use Rattle.project_spec.specs.Trees.{scripts_of, sheet_of, sheets}
+use Rattle.hat_index.specs.ByIndex.{Asked, first_asked, second_asked}
+use Rattle.hat_index.specs.Hats.{Index}
 use Rattle.project_check.specs.declared.project.Project.{Project}
 use Rattle.project_check.specs.Loaded.{tables_of, names_of, program_of}
-use Rattle.hats.specs.declared.hat_rounds.Round.{Round}
-use Rattle.hats.specs.Fitting.{is_meant, in_round, is_click}
-use Rattle.hats.specs.Rounds.{passes, hats_in, has_hats, hats_of, hats_among}
-use Rattle.hats.proofs.Fitted.{second-none}
+use Rattle.hats.specs.Fitting.{is_meant}
+use Rattle.hats.specs.Indexed.{hats_of, hats_among}
+use Rattle.hats.specs.Rounds.{hats_of_round}
 
 -- Lists
 
@@ -26,10 +29,6 @@ module _ {A : Type 0} where
   filter_all : (xs : List A) → filter (λ x. true) xs ≡ xs
   filter_all [] = refl
   filter_all (x ∷ xs) = ap (λ ys. x ∷ ys) (filter_all xs)
-
-  filter_none : (test : A → Bool) → ((x : A) → test x ≡ false) → (xs : List A) → filter test xs ≡ []
-  filter_none test never [] = refl
-  filter_none test never (x ∷ xs) = rw (never x) (filter_none test never xs)
 
   last_first : (x : A) (xs : List A) → reverse (x ∷ xs) ≡ reverse xs ++ x ∷ []
   last_first x xs = reverse-append (x ∷ []) xs
@@ -58,10 +57,6 @@ module _ {A : Type 0} where
         ∙ ap (λ ys. cond (test x) (f x) [] ++ ys) (flat_map_where test f xs)
         ∙ sym (flat_map-cons (λ y. cond (test y) (f y) []) x xs)
 
-    flat_map_none : (f : A → List B) → ((x : A) → f x ≡ []) → (xs : List A) → flat_map f xs ≡ []
-    flat_map_none f never [] = refl
-    flat_map_none f never (x ∷ xs) = flat_map-cons f x xs ∙ ap (λ ys. ys ++ flat_map f xs) (never x) ∙ flat_map_none f never xs
-
 -- The instances that a filter speaks of
 
 meant_is : (f : Filter) (is : List Instance) → meant f is ≡ filter (is_meant f) is
@@ -72,22 +67,39 @@ meant_is Flag is = sym (filter_all is)
 meant_is (CloneStart clone) is = refl
 meant_is (Clicked instance) is = refl
 
--- a round starts the hats that pass it
-pub round_is : (r : Round) (is : List Instance) → hats_among r is ≡ pairs (program_of r.project.now) (passes r) (meant r.filter.now is)
-round_is r is =
-    sym (flat_map_where (is_meant r.filter.now) (hats_in r) (reverse is))
-    ∙ ap (flat_map (hats_in r)) (sym (filter_reverse (is_meant r.filter.now) is))
-    ∙ ap (λ js. flat_map (hats_in r) (reverse js)) (sym (meant_is r.filter.now is))
+-- a round starts the hats that have what it asks
+round_is : (index : Index) (f : Filter) (a : Asked) (is : List Instance) → hats_of_round index f a is ≡ hats_among index a (meant f is)
+round_is index f a is =
+    sym (flat_map_where (is_meant f) (hats_of index a) (reverse is))
+    ∙ ap (flat_map (hats_of index a)) (sym (filter_reverse (is_meant f) is))
+    ∙ ap (λ js. flat_map (hats_of index a) (reverse js)) (sym (meant_is f is))
 
--- the first round
-pub first_is : (r : Round) (is : List Instance) → r.on_stage ≡ false → hats_among r is ≡ pairs (program_of r.project.now) (in_round false r.filter.now) (meant r.filter.now is)
-first_is r is e = round_is r is ∙ ap (λ b. pairs (program_of r.project.now) (in_round b r.filter.now) (meant r.filter.now is)) e
+-- the first
+pub first_round : (index : Index) (f : Filter) (a : Asked) (is : List Instance) → a ≡ first_asked f → hats_of_round index f a is ≡ hats_among index (first_asked f) (meant f is)
+first_round index f a is e = round_is index f a is ∙ ap (λ x. hats_among index x (meant f is)) e
 
--- what is no click has no hats of the second round
-pub no_second : (p : Program) (f : Filter) (is : List Instance) → is_click f ≡ false → pairs p (in_round true f) is ≡ []
-no_second p f is e =
-    flat_map_none (pairs_of p (in_round true f))
-    (λ i. ap (map (λ h. record { of = i.number; head = h })) (filter_none (λ h. in_round true f h.hat) (λ h. second-none f h.hat e) (scripts_at i.of p).heads)) (reverse is)
+-- the second, which only a click has
+
+second_is : (f : Filter) (op : Opcode) → option_map (λ (a : Asked). a.opcode) (second_asked f) ≡ Some op → second_asked f ≡ Some (record { opcode = op; folded = [] })
+second_is (Clicked instance) op e = ap (option_map (λ (o : Opcode). record { opcode = o; folded = [] })) e
+second_is (Broadcast message) op e = absurd (cc e)
+second_is (Backdrop costume) op e = absurd (cc e)
+second_is (Key name) op e = absurd (cc e)
+second_is Flag op e = absurd (cc e)
+second_is (CloneStart clone) op e = absurd (cc e)
+
+pub second_round : (index : Index) (f : Filter) (op : Opcode) (is : List Instance) → option_map (λ (a : Asked). a.opcode) (second_asked f) ≡ Some op
+    → hats_of_round index f (record { opcode = op; folded = [] }) is ≡ option_map_or (λ a. hats_among index a (meant f is)) (second_asked f) []
+second_round index f op is h = round_is index f (record { opcode = op; folded = [] }) is ∙ ap (λ o. option_map_or (λ a. hats_among index a (meant f is)) o []) (sym (second_is f op h))
+
+-- any other filter has none
+pub second_none : (f : Filter) → option_map (λ (a : Asked). a.opcode) (second_asked f) ≡ None → second_asked f ≡ None
+second_none (Clicked instance) e = absurd (cc e)
+second_none (Broadcast message) e = refl
+second_none (Backdrop costume) e = refl
+second_none (Key name) e = refl
+second_none Flag e = refl
+second_none (CloneStart clone) e = refl
 
 -- Instances without a target
 
@@ -109,19 +121,3 @@ none_past p test i h =
 
 pub none_off : (p : Project) (test : Statement → Bool) (i : Instance) → nat_lt i.of (length (tables_of p)) ≡ false → pairs_of (program_of p) test i ≡ []
 none_off p test i h = none_past p test i (grind (arith, h))
-
--- what a part of a round owes
-pub hats_there : (r : Round) (i : Instance) → has_hats r i ≡ true → hats_of r i ≡ hats_in r i
-hats_there r i e = by (is_meant r.filter.now i) (nat_lt i.of (length (tables_of r.project.now))) e
-  where
-    by : (m t : Bool) → (m && t) ≡ true → cond m (hats_in r i) [] ≡ hats_in r i
-    by true t e = refl
-    by false t e = absurd (cc e)
-
-pub hats_none : (r : Round) (i : Instance) → has_hats r i ≡ false → hats_of r i ≡ []
-hats_none r i e = by (is_meant r.filter.now i) (nat_lt i.of (length (tables_of r.project.now))) refl e
-  where
-    by : (m t : Bool) → nat_lt i.of (length (tables_of r.project.now)) ≡ t → (m && t) ≡ false → cond m (hats_in r i) [] ≡ []
-    by true true h e = absurd (cc e)
-    by true false h e = none_off r.project.now (passes r) i h
-    by false t h e = refl

@@ -1,5 +1,5 @@
 -- How a start of hats stops: where a thread has no number, or no level is left for it.
-use Rattle.std.proofs.Common.{◌≡◌, ℕ, ◌==◌, ◌+◌, ◌++◌, Bool, true, false, if◌then◌else◌, List, [], ◌∷◌, Option, Some, None, refl, subst, position}
+use Rattle.std.proofs.Common.{ℕ, ◌==◌, Bool, true, false, if◌then◌else◌, List, [], ◌∷◌, Option, Some, None, refl, subst, position}
 use Rattle.std.specs.Prelude.{nat_lt, slice_get, Result, Ok, Err, IfErr}
 use Rattle.std.specs.List.{list_any}
 use Rattle.opcode_table.specs.Kinds.{hat_kind}
@@ -12,6 +12,9 @@ use Rattle.machine_spec.specs.declared.threads.Which.TheVariants.{Slot}
 use Rattle.machine_spec.specs.Places.{Places, on_place}
 use Rattle.machine_spec.specs.Script.{op_of}
 use Rattle.machine_spec.specs.Starting.{Handle, Pair, Crowd, open_levels, restarts, runs_at, replaced, replaced_at, placed, appended, joined, is_of, is_alive_of, new_thread, ignored_or_appended, start_by, start_one, start_all}
+use Rattle.thread_frames.specs.Threads.{Thread, frames}
+use Rattle.hats.specs.declared.hat_threads.Hat.{Hat}
+use Rattle.hats.specs.Started.{entered, is_ignored, new_of, started, started_all}
 use Rattle.hats.specs.Stops.{IsOfThreadsOrMemory}
 
 -- an outcome that meets no other limits than these
@@ -82,5 +85,22 @@ module _ (P : Stop → Type 0) where
     all_meets [] c = tt
     all_meets (x ∷ xs) c = then_meets (start_one k running x c) _ (one_meets x c) (λ d. all_meets xs d)
 
-pub start_stops : {T A : Type 0} (r : Result T Stop) (k : Handle A) (running : Option ℕ) (xs : List Pair) (c : Crowd A) → StopIs r (start_all k running xs c) → IfErr r IsOfThreadsOrMemory
-start_stops r k running xs c s = stop_of IsOfThreadsOrMemory r (start_all k running xs c) tt (all_meets IsOfThreadsOrMemory tt refl k running xs c) s
+-- hats that are at hand stop as those of the machine do
+module _ (P : Stop → Type 0) (full : P Stack) (spent : P (Counter counter.Thread)) (running : Option ℕ) where
+  entered_by : (again : Bool) (j : Option ℕ) (new : Thread) (ts : Places Thread) → Meets P (if again then placed frames running j new ts else appended frames new ts)
+  entered_by true j new ts = placed_meets P full spent frames running j new ts
+  entered_by false j new ts = room_meets P (open_levels frames ts) _ full
+
+  started_by : (ignored : Bool) (c : Crowd Thread) (o : Outcome (Places Thread)) → Meets P o → Meets P (if ignored then Goes c else joined c o)
+  started_by true c o h = tt
+  started_by false c o h = joined_meets P full spent frames running c o h
+
+  started_meets : (h : Hat) (c : Crowd Thread) → Meets P (started running h c)
+  started_meets h c = started_by (is_ignored h c.threads) c (entered running h c.next c.threads) (entered_by h.restarts _ (new_of h c.next) c.threads)
+
+  hats_meet : (hs : List Hat) (c : Crowd Thread) → Meets P (started_all running hs c)
+  hats_meet [] c = tt
+  hats_meet (h ∷ hs) c = then_meets P (started running h c) _ (started_meets h c) (λ d. hats_meet hs d)
+
+pub hats_stop : {T : Type 0} (r : Result T Stop) (running : Option ℕ) (hs : List Hat) (c : Crowd Thread) → StopIs r (started_all running hs c) → IfErr r IsOfThreadsOrMemory
+hats_stop r running hs c s = stop_of IsOfThreadsOrMemory r (started_all running hs c) tt (hats_meet IsOfThreadsOrMemory tt refl running hs c) s

@@ -1,108 +1,98 @@
 //! Starting the hats of a filter.
 
-ghost use Rattle.std.specs.Prelude.{◌≡◌, ℕ, ◌<◌, ◌≤◌, ◌^◌, [], length, slice_get, true, false, Some, IfOk, IfErr, OnOk};
-ghost use Rattle.project_check.specs.Loaded.{program_of, tables_of, blocks_at, sheet_at};
-ghost use Rattle.project_spec.specs.Linked.{IsClosed};
+ghost use Rattle.std.specs.Prelude.{◌≡◌, ℕ, ◌<◌, ◌≤◌, ◌^◌, [], map, IfOk, IfErr, OnOk};
+ghost use Rattle.std.specs.Option.{option_map_or};
+ghost use Rattle.hat_index.specs.ByIndex.{first_asked, second_asked};
+ghost use Rattle.hat_index.specs.Index.{found};
+ghost use Rattle.project_check.specs.declared.project.Project.{Project};
+ghost use Rattle.project_check.specs.Hats.{IsIndexOf};
+ghost use Rattle.project_check.specs.Loaded.{program_of, sheet_at};
 ghost use Rattle.machine_spec.specs.Outcome.{Goes, StopIs};
 ghost use Rattle.machine_spec.specs.Places.{Everyone};
-ghost use Rattle.machine_spec.specs.Starting.{start_all, starts, pairs, meant};
+ghost use Rattle.machine_spec.specs.Starting.{start_all, starts, meant};
 ghost use Rattle.thread_frames.specs.Fit.{Fits};
 ghost use Rattle.thread_frames.specs.Threads.{frames};
-ghost use Rattle.hats.specs.Fitting.{in_round};
-ghost use Rattle.hats.specs.Started.{crowd_of};
+ghost use Rattle.hats.specs.Indexed.{hat_by, hats_among, hats_for, AreAllHeld, AreHeld};
+ghost use Rattle.hats.specs.Started.{crowd_of, started_all};
 ghost use Rattle.hats.specs.Stops.{IsOfThreadsOrMemory};
-ghost use Rattle.hats.specs.Rounds.{passes, hats_in, hats_of, hats_by, hats_at, hats_among, has_hats as has_hats_by, IsKept};
+ghost use Rattle.hats.specs.Rounds.{asked_in, hats_in, hats_if_meant, hats_of_round, IsKept};
 
-use crate::filters::{is_click, is_in_round, is_meant, is_there, kind_of, next_of, restarts};
+use crate::asked::{first_opcode, folded_text, second_opcode};
+use crate::filters::{is_meant, restarts};
 use crate::hat_threads::{Hat, Numbers, start_hat};
-use machine_spec::{BlockId, Filter, Instance, Serials};
-use project_check::Project;
-use project_spec::Block;
+use crate::laws::an_index_gives_the_hats_that_start;
+use machine_spec::{Filter, Instance, Serials};
+use opcode_table::{Opcode, hat_kind};
+use project_check::{HatIndex, Start};
 use script_words::Stop;
 use std::alloc::Global;
 use targets::Targets;
 use thread_frames::Threads;
 
-// One round of a start: the first starts all hats that fit but the stage-clicked ones, the second these.
+// One round of a start: it starts the hats that have an opcode and a folded text. A click has two: the stage's hats come
+// behind the others.
 #[derive(Drop)]
 pub(crate) struct Round<'a> {
-    pub(crate) project: &'a Project,
+    pub(crate) index: &'a HatIndex,
     pub(crate) filter: &'a Filter,
     pub(crate) running: Option<u64>,
-    pub(crate) on_stage: bool,
+    pub(crate) opcode: Opcode,
+    pub(crate) folded: &'a str,
 }
 
-// Starts a block of the instance's target, where it is a hat of the round.
-fn start_block(
-    round: &Round<'_>,
-    threads: &mut Threads,
-    numbers: &mut Numbers,
-    instance: &Instance,
-    id: BlockId,
-    block: &Block,
-) -> Result<(), Stop>
-    requires few { numbers.old.next < 2 ^ 62 }
-    requires held { slice_get (blocks_at instance.now.of round.now.project.now) id ≡ Some block.now }
-    requires closed { IsClosed (blocks_at instance.now.of round.now.project.now) }
-    ensures ok { OnOk result (start_all frames round.now.running (hats_by round.now instance.now id (Some block.now)) (crowd_of threads.old numbers.old) ≡ Goes (crowd_of threads.new numbers.new)) }
-    ensures stop { StopIs result (start_all frames round.now.running (hats_by round.now instance.now id (Some block.now)) (crowd_of threads.old numbers.old)) }
-    ensures kept { IsKept round.now.project.now threads.old threads.new numbers.old numbers.new }
+// A hat of an instance, as it is started.
+fn hat_by(opcode: Opcode, instance: &Instance, start: &Start) -> Hat
+    ensures { result ≡ hat_by opcode instance.now start.now }
 {
-    if is_in_round(round.on_stage, round.filter, block) {
-        let hat = Hat {
-            of: instance.number,
-            target: instance.of,
-            block: id,
-            first: next_of(block),
-            restarts: restarts(kind_of(block)),
-        };
-        start_hat(threads, numbers, round.running, &hat)
-    } else {
-        Ok(())
+    Hat {
+        of: instance.number,
+        target: instance.of,
+        block: start.0,
+        first: start.1,
+        restarts: restarts(hat_kind(opcode)),
     }
 }
 
-// Starts the head with a number, where it is a hat of the round.
-fn start_head(
+// Starts hats of an instance in turn.
+fn start_each(
     round: &Round<'_>,
     threads: &mut Threads,
     numbers: &mut Numbers,
     instance: &Instance,
-    id: BlockId,
+    starts: &[Start],
 ) -> Result<(), Stop>
     requires few { numbers.old.next < 2 ^ 62 }
-    requires target { instance.now.of < length (tables_of round.now.project.now) }
-    ensures ok { OnOk result (start_all frames round.now.running (hats_at round.now instance.now id) (crowd_of threads.old numbers.old) ≡ Goes (crowd_of threads.new numbers.new)) }
-    ensures stop { StopIs result (start_all frames round.now.running (hats_at round.now instance.now id) (crowd_of threads.old numbers.old)) }
-    ensures kept { IsKept round.now.project.now threads.old threads.new numbers.old numbers.new }
+    ensures ok { OnOk result (started_all round.now.running (map (hat_by round.now.opcode instance.now) starts.now) (crowd_of threads.old numbers.old) ≡ Goes (crowd_of threads.new numbers.new)) }
+    ensures stop { StopIs result (started_all round.now.running (map (hat_by round.now.opcode instance.now) starts.now) (crowd_of threads.old numbers.old)) }
+    ensures kept { IsKept (λ sheets. AreAllHeld (sheets instance.now.of) starts.now) threads.old threads.new numbers.old numbers.new }
 {
-    match round.project.blocks(instance.of).get(id) {
-        Some(block) => start_block(round, threads, numbers, instance, id, block),
-        None => Ok(()),
-    }
-}
-
-// Starts the hats of an instance, in block order.
-fn start_heads(
-    round: &Round<'_>,
-    threads: &mut Threads,
-    numbers: &mut Numbers,
-    instance: &Instance,
-) -> Result<(), Stop>
-    requires few { numbers.old.next < 2 ^ 62 }
-    requires target { instance.now.of < length (tables_of round.now.project.now) }
-    ensures ok { OnOk result (start_all frames round.now.running (hats_in round.now instance.now) (crowd_of threads.old numbers.old) ≡ Goes (crowd_of threads.new numbers.new)) }
-    ensures stop { StopIs result (start_all frames round.now.running (hats_in round.now instance.now) (crowd_of threads.old numbers.old)) }
-    ensures kept { IsKept round.now.project.now threads.old threads.new numbers.old numbers.new }
-{
-    let heads = round.project.heads(instance.of).as_slice();
-    for head in heads {
-        match start_head(round, threads, numbers, instance, *head) {
+    for start in starts {
+        let hat = hat_by(round.opcode, instance, start);
+        match start_hat(threads, numbers, round.running, &hat) {
             Ok(()) => {}
             Err(stop) => return Err(stop),
         }
     }
     Ok(())
+}
+
+// Starts the hats of an instance that are found, in block order.
+fn start_found(
+    round: &Round<'_>,
+    threads: &mut Threads,
+    numbers: &mut Numbers,
+    instance: &Instance,
+) -> Result<(), Stop>
+    requires few { numbers.old.next < 2 ^ 62 }
+    ensures ok { OnOk result (started_all round.now.running (hats_in round.now instance.now) (crowd_of threads.old numbers.old) ≡ Goes (crowd_of threads.new numbers.new)) }
+    ensures stop { StopIs result (started_all round.now.running (hats_in round.now instance.now) (crowd_of threads.old numbers.old)) }
+    ensures kept { IsKept (λ sheets. AreHeld sheets (found round.now.index.now)) threads.old threads.new numbers.old numbers.new }
+{
+    let index = round.index;
+    match index.heads_for(instance.of, round.opcode, round.folded) {
+        Some(starts) => start_each(round, threads, numbers, instance, starts.as_slice()),
+        None => Ok(()),
+    }
 }
 
 // Starts the hats of an instance, where the filter speaks of it.
@@ -113,23 +103,15 @@ fn start_instance(
     instance: &Instance,
 ) -> Result<(), Stop>
     requires few { numbers.old.next < 2 ^ 62 }
-    ensures ok { OnOk result (start_all frames round.now.running (hats_of round.now instance.now) (crowd_of threads.old numbers.old) ≡ Goes (crowd_of threads.new numbers.new)) }
-    ensures stop { StopIs result (start_all frames round.now.running (hats_of round.now instance.now) (crowd_of threads.old numbers.old)) }
-    ensures kept { IsKept round.now.project.now threads.old threads.new numbers.old numbers.new }
+    ensures ok { OnOk result (started_all round.now.running (hats_if_meant (found round.now.index.now) round.now.filter.now (asked_in round.now) instance.now) (crowd_of threads.old numbers.old) ≡ Goes (crowd_of threads.new numbers.new)) }
+    ensures stop { StopIs result (started_all round.now.running (hats_if_meant (found round.now.index.now) round.now.filter.now (asked_in round.now) instance.now) (crowd_of threads.old numbers.old)) }
+    ensures kept { IsKept (λ sheets. AreHeld sheets (found round.now.index.now)) threads.old threads.new numbers.old numbers.new }
 {
-    if has_hats(round, instance) {
-        start_heads(round, threads, numbers, instance)
+    if is_meant(round.filter, instance) {
+        start_found(round, threads, numbers, instance)
     } else {
         Ok(())
     }
-}
-
-// Whether the filter speaks of an instance whose target is there.
-fn has_hats(round: &Round<'_>, instance: &Instance) -> bool
-    ensures { result ≡ has_hats_by round.now instance.now }
-{
-    let is_there = is_there(round.project, instance);
-    is_meant(round.filter, instance) && is_there
 }
 
 // Starts the hats of one round, from the last instance to the first.
@@ -140,9 +122,9 @@ fn start_round(
     instances: &[Instance],
 ) -> Result<(), Stop>
     requires few { numbers.old.next < 2 ^ 62 }
-    ensures ok { OnOk result (start_all frames round.now.running (hats_among round.now instances.now) (crowd_of threads.old numbers.old) ≡ Goes (crowd_of threads.new numbers.new)) }
-    ensures stop { StopIs result (start_all frames round.now.running (hats_among round.now instances.now) (crowd_of threads.old numbers.old)) }
-    ensures kept { IsKept round.now.project.now threads.old threads.new numbers.old numbers.new }
+    ensures ok { OnOk result (started_all round.now.running (hats_of_round (found round.now.index.now) round.now.filter.now (asked_in round.now) instances.now) (crowd_of threads.old numbers.old) ≡ Goes (crowd_of threads.new numbers.new)) }
+    ensures stop { StopIs result (started_all round.now.running (hats_of_round (found round.now.index.now) round.now.filter.now (asked_in round.now) instances.now) (crowd_of threads.old numbers.old)) }
+    ensures kept { IsKept (λ sheets. AreHeld sheets (found round.now.index.now)) threads.old threads.new numbers.old numbers.new }
 {
     for instance in instances.iter().rev() {
         match start_instance(round, threads, numbers, instance) {
@@ -154,31 +136,33 @@ fn start_round(
 }
 
 // Starts the hats of the second round, which only a click has.
-fn start_clicked(
+fn start_second(
     round: &Round<'_>,
     threads: &mut Threads,
     numbers: &mut Numbers,
     instances: &[Instance],
 ) -> Result<(), Stop>
     requires few { numbers.old.next < 2 ^ 62 }
-    ensures ok { OnOk result (start_all frames round.now.running (pairs (program_of round.now.project.now) (in_round true round.now.filter.now) (meant round.now.filter.now instances.now)) (crowd_of threads.old numbers.old) ≡ Goes (crowd_of threads.new numbers.new)) }
-    ensures stop { StopIs result (start_all frames round.now.running (pairs (program_of round.now.project.now) (in_round true round.now.filter.now) (meant round.now.filter.now instances.now)) (crowd_of threads.old numbers.old)) }
-    ensures kept { IsKept round.now.project.now threads.old threads.new numbers.old numbers.new }
+    ensures ok { OnOk result (started_all round.now.running (option_map_or (λ a. hats_among (found round.now.index.now) a (meant round.now.filter.now instances.now)) (second_asked round.now.filter.now) []) (crowd_of threads.old numbers.old) ≡ Goes (crowd_of threads.new numbers.new)) }
+    ensures stop { StopIs result (started_all round.now.running (option_map_or (λ a. hats_among (found round.now.index.now) a (meant round.now.filter.now instances.now)) (second_asked round.now.filter.now) []) (crowd_of threads.old numbers.old)) }
+    ensures kept { IsKept (λ sheets. AreHeld sheets (found round.now.index.now)) threads.old threads.new numbers.old numbers.new }
 {
-    if is_click(round.filter) {
-        let second = Round {
-            project: round.project,
-            filter: round.filter,
-            running: round.running,
-            on_stage: true,
-        };
-        start_round(&second, threads, numbers, instances)
-    } else {
-        Ok(())
+    match second_opcode(round.filter) {
+        Some(opcode) => {
+            let second = Round {
+                index: round.index,
+                filter: round.filter,
+                running: round.running,
+                opcode,
+                folded: "",
+            };
+            start_round(&second, threads, numbers, instances)
+        }
+        None => Ok(()),
     }
 }
 
-// Starts the hats of both rounds. Only a click has hats of the second.
+// Starts the hats of both rounds.
 fn start_rounds(
     round: &Round<'_>,
     threads: &mut Threads,
@@ -186,16 +170,16 @@ fn start_rounds(
     instances: &[Instance],
 ) -> Result<(), Stop>
     requires few { numbers.old.next < 2 ^ 62 }
-    requires first { round.now.on_stage ≡ false }
-    ensures ok { OnOk result (start_all frames round.now.running (starts (program_of round.now.project.now) round.now.filter.now instances.now) (crowd_of threads.old numbers.old) ≡ Goes (crowd_of threads.new numbers.new)) }
-    ensures stop { StopIs result (start_all frames round.now.running (starts (program_of round.now.project.now) round.now.filter.now instances.now) (crowd_of threads.old numbers.old)) }
-    ensures kept { IsKept round.now.project.now threads.old threads.new numbers.old numbers.new }
+    requires first { asked_in round.now ≡ first_asked round.now.filter.now }
+    ensures ok { OnOk result (started_all round.now.running (hats_for (found round.now.index.now) round.now.filter.now instances.now) (crowd_of threads.old numbers.old) ≡ Goes (crowd_of threads.new numbers.new)) }
+    ensures stop { StopIs result (started_all round.now.running (hats_for (found round.now.index.now) round.now.filter.now instances.now) (crowd_of threads.old numbers.old)) }
+    ensures kept { IsKept (λ sheets. AreHeld sheets (found round.now.index.now)) threads.old threads.new numbers.old numbers.new }
 {
     match start_round(round, threads, numbers, instances) {
         Ok(()) => {}
         Err(stop) => return Err(stop),
     }
-    start_clicked(round, threads, numbers, instances)
+    start_second(round, threads, numbers, instances)
 }
 
 /// Starts the hats of a filter in turn, and gives the numbers of the new threads in order: from the last instance to the
@@ -204,10 +188,11 @@ fn start_rounds(
 /// the old thread becomes the detached one. A hat without restart is ignored beside a thread of it that is not done.
 /// `Counter` of threads exactly where no number is left, `Stack` exactly where 65,536 levels are open, each where it is
 /// met first; the only other error is want of memory. Threads that fit the blocks of the project before do so after, also
-/// behind an error. `next` is the number of the next thread, below 2^62.
+/// behind an error. `next` is the number of the next thread, below 2^62. The hats are read from the index of the project: only
+/// those are looked at that start.
 pub fn start(
     alloc: Global,
-    project: &Project,
+    index: &HatIndex,
     targets: &Targets,
     threads: &mut Threads,
     next: &mut u64,
@@ -215,18 +200,24 @@ pub fn start(
     filter: &Filter,
 ) -> Result<Serials, Stop>
     requires few { next.old < 2 ^ 62 }
-    ensures ok { IfOk result (λ serials. start_all frames running (starts (program_of project.now) filter.now targets.now) (record { threads = threads.old; next = next.old; serials = [] }) ≡ Goes (record { threads = threads.new; next = next.new; serials = serials })) }
-    ensures stop { StopIs result (start_all frames running (starts (program_of project.now) filter.now targets.now) (record { threads = threads.old; next = next.old; serials = [] })) }
+    ensures ok { IfOk result (λ serials. (project : Project) → IsIndexOf project index.now → start_all frames running (starts (program_of project) filter.now targets.now) (record { threads = threads.old; next = next.old; serials = [] }) ≡ Goes (record { threads = threads.new; next = next.new; serials = serials })) }
+    ensures stop { (project : Project) → IsIndexOf project index.now → StopIs result (start_all frames running (starts (program_of project) filter.now targets.now) (record { threads = threads.old; next = next.old; serials = [] })) }
     ensures kind { IfErr result IsOfThreadsOrMemory }
-    ensures fits { Everyone (Fits (λ t. sheet_at t project.now)) threads.old → Everyone (Fits (λ t. sheet_at t project.now)) threads.new }
+    ensures fits { (project : Project) → IsIndexOf project index.now → Everyone (Fits (λ t. sheet_at t project)) threads.old → Everyone (Fits (λ t. sheet_at t project)) threads.new }
     ensures rising { next.old ≤ next.new }
     ensures few { next.new < 2 ^ 62 }
 {
+    an_index_gives_the_hats_that_start();
+    let folded = match folded_text(alloc, filter) {
+        Ok(folded) => folded,
+        Err(_) => return Err(Stop::NoMemory),
+    };
     let round = Round {
-        project,
+        index,
         filter,
         running,
-        on_stage: false,
+        opcode: first_opcode(filter),
+        folded: folded.as_str(),
     };
     let mut numbers = Numbers {
         next: *next,

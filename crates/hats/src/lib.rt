@@ -2,6 +2,7 @@
 //! startHats, _pushThread and _restartThread).
 #![tactic(auto)]
 
+mod asked;
 mod edge_hats;
 mod edge_start;
 mod filters;
@@ -12,4 +13,4 @@ mod laws;
 pub use edge_hats::{EdgeHat, EdgeList, edges};
 pub use edge_start::fire;
 pub use hat_rounds::start;
-pub use laws::every_hat_is_a_head;
+pub use laws::{an_index_gives_the_hats_that_start, every_hat_is_a_head};

@@ -68,7 +68,8 @@ fn started(
 {
     let filter = filter_of(alloc, hats)?;
     let targets = Targets::open(alloc, project.records())?;
-    let serials = start(alloc, project, &targets, threads, next, running, &filter);
+    let index = project.hat_index();
+    let serials = start(alloc, index, &targets, threads, next, running, &filter);
     drop(targets);
     match serials {
         Ok(serials) => Ok(serials.len()),
@@ -171,7 +172,7 @@ fn no_number_is_left(rt: HostRuntime) {
     let mut next = (1u64 << 62) - 1;
     match start(
         alloc,
-        &project,
+        project.hat_index(),
         &targets,
         &mut threads,
         &mut next,

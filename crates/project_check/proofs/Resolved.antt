@@ -3,7 +3,7 @@ use Rattle.std.proofs.Common.{◌≡◌, ℕ, zero, suc, ◌+◌, ◌<◌, ◌^�
 use Rattle.std.specs.Prelude.{slice_get, unwrap_or, option_map}
 use Rattle.std.specs.Borrow.{Bor}
 use Rattle.std.specs.List.{All, AllZip, sum_by, slice_index_or}
-use Rattle.std.proofs.lemmas.List.{length-set}
+use Rattle.std.proofs.lemmas.List.{length-set, length-map}
 use Rattle.std.proofs.lemmas.Option.{slice_get-map}
 use Rattle.machine_spec.specs.Lists.{set_some, changed_at}
 use Rattle.machine_spec.specs.Program.{Records, record_at, stage_number}
@@ -16,6 +16,8 @@ use Rattle.project_spec.specs.Resolving.{Naming, found_in, names_of, or_added, r
 use Rattle.block_checks.specs.Kept.{Kept, IsKept}
 use Rattle.block_checks.proofs.Lists.{zip_length, zip_at}
 use Rattle.name_resolving.specs.Blocks.{flags_by, flag_of}
+use Rattle.hat_index.specs.declared.index.HatIndex.{HatIndex}
+use Rattle.hat_index.specs.Index.{found, IsIndex}
 use Rattle.project_check.specs.Loaded.{checked_by, Resolves}
 use Rattle.project_check.specs.Counts.{block_count}
 use Rattle.project_check.specs.Heads.{head_numbers}
@@ -133,6 +135,15 @@ keeps old new tables links names cached heads total same dressed few passes kept
 
 pub heads_of : (heads : List (List ℕ)) (lent tables : List BlockTable) → lent ≡ tables → heads ≡ map head_numbers (map (λ b. b.blocks) lent) → heads ≡ map head_numbers (map (λ b. b.blocks) tables)
 heads_of heads lent tables e h = h ∙ ap (λ ts. map head_numbers (map (λ b. b.blocks) ts)) e
+
+pub indexed_of : (index : HatIndex) (heads held : List (List ℕ)) (lent tables : List BlockTable) → lent ≡ tables → held ≡ heads → heads ≡ map head_numbers (map (λ b. b.blocks) tables)
+    → IsIndex (found index) (map (λ b. b.blocks) lent) held → IsIndex (found index) (map (λ b. b.blocks) tables) (map head_numbers (map (λ b. b.blocks) tables))
+indexed_of index heads held lent tables e f numbers is =
+    subst (λ hs. IsIndex (found index) (map (λ b. b.blocks) tables) hs) (f ∙ numbers) (subst (λ ts. IsIndex (found index) (map (λ b. b.blocks) ts) held) e is)
+
+pub as_many_heads : (heads held : List (List ℕ)) (lent tables : List BlockTable) → lent ≡ tables → held ≡ heads → heads ≡ map head_numbers (map (λ b. b.blocks) tables) → length held ≡ length lent
+as_many_heads heads held lent tables e f numbers =
+    ap length (f ∙ numbers) ∙ length-map (map (λ b. b.blocks) tables) head_numbers ∙ length-map tables (λ b. b.blocks) ∙ ap length (sym e)
 
 pub count_of : (total : ℕ) (lent tables : List BlockTable) → lent ≡ tables → total ≡ sum_by (λ b. length b.blocks) lent → total ≡ block_count (map (λ b. b.blocks) tables)
 count_of total lent tables e h = h ∙ ap (sum_by (λ (b : BlockTable). length b.blocks)) e ∙ sym (sum_by-map length (λ (b : BlockTable). b.blocks) tables)

@@ -7,3 +7,4 @@ pub mod Kept
 pub mod Told
 pub mod Loaded
 pub mod Links
+pub mod Hats

@@ -3,6 +3,7 @@
 #![tactic(auto)]
 
 mod file;
+mod hats;
 mod heads;
 mod laws;
 mod loader;
@@ -10,6 +11,7 @@ mod procedures;
 mod project;
 mod sizes;
 
+pub use hat_index::{HatIndex, Start, Starts};
 pub use heads::Heads;
 pub use laws::{every_project_is_linked, every_project_is_of_an_accepted_file};
 pub use loader::load;

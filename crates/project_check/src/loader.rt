@@ -10,6 +10,7 @@ ghost use Rattle.project_check.specs.Measured.{IsRead};
 ghost use Rattle.project_check.specs.Loaded.{Loads, Resolves, of_json, of_fault};
 
 use crate::file::read_file;
+use crate::hats::all_hats;
 use crate::heads::all_heads;
 use crate::project::Project;
 use crate::sizes::measure;
@@ -115,6 +116,7 @@ fn linked(alloc: Global, mut records: Records, tables: Vec<BlockTable>) -> Resul
     let names = names(alloc, &mut records, &tables, &links)?;
     let cached = cache_all(alloc, &tables, &names)?;
     let heads = all_heads(alloc, &tables)?;
+    let hats = all_hats(alloc, &tables, &heads)?;
     let blocks = count(&tables);
     Ok(Project {
         records,
@@ -123,6 +125,7 @@ fn linked(alloc: Global, mut records: Records, tables: Vec<BlockTable>) -> Resul
         names,
         cached,
         heads,
+        hats,
         blocks,
     })
 }

@@ -3,6 +3,8 @@
 ghost use Rattle.std.specs.Prelude.{◌≡◌, map};
 ghost use Rattle.target_records.specs.Records.{records_in};
 ghost use Rattle.project_spec.specs.Resolving as told;
+ghost use Rattle.hat_index.specs.Index.{found, IsIndex};
+ghost use Rattle.project_check.specs.Heads.{head_numbers};
 ghost use Rattle.project_check.specs.Kept.{IsProjectOf};
 ghost use Rattle.project_check.specs.Told.{IsToldBySome};
 
@@ -11,6 +13,7 @@ use crate::procedures::{Callee, called};
 use block_checks::BlockLinks;
 use block_table::BlockTable;
 use cached_blocks::{CachedBlock, CachedBlocks, ref_in};
+use hat_index::HatIndex;
 use machine_spec::{BlockId, TargetId};
 use name_resolving::ResolvedNames;
 use project_spec::{Block, Resolved};
@@ -27,8 +30,10 @@ pub struct Project {
     pub(crate) names: ResolvedNames,
     pub(crate) cached: Vec<CachedBlocks>,
     pub(crate) heads: Vec<Heads>,
+    pub(crate) hats: HatIndex,
     pub(crate) blocks: u32,
     pub ghost kept: { IsProjectOf (records_in records) (map (λ t. t.blocks) tables.items) links.items names cached.items heads.items blocks },
+    pub ghost indexed: { IsIndex (found hats) (map (λ t. t.blocks) tables.items) (map head_numbers (map (λ t. t.blocks) tables.items)) },
     pub ghost told: { ∥ IsToldBySome (records_in records) tables.items names ∥₁ },
 }
 
@@ -42,6 +47,7 @@ impl Drop for Project {
             names: _names,
             cached: _cached,
             heads: _heads,
+            hats: _hats,
             blocks: _,
         } = self;
     }
@@ -58,6 +64,7 @@ impl Project {
     ghost use Rattle.machine_spec.specs.Program.{definition_of, procedure};
     ghost use Rattle.project_check.specs.Counts.{block_count};
     ghost use Rattle.project_check.specs.Heads.{head_numbers};
+    ghost use Rattle.project_check.specs.Hats.{IsIndexOf};
     ghost use Rattle.target_records.specs.Costumes.{IsDressed};
     ghost use Rattle.project_check.specs.Procedures.{callee_at, callee_in, defines_at, procedure_in};
     ghost use Rattle.project_check.specs.Loaded.{tables_of, program_of, blocks_at, ids_at, names_at, ranks_at, sheet_at};
@@ -104,6 +111,14 @@ impl Project {
         ensures { result.now ≡ head_numbers (blocks_at target self.now) }
     {
         &self.heads[target.0 as usize]
+    }
+
+    /// The index of its hats: under a target, an opcode and a folded text it has exactly the heads that are such hats, in
+    /// block order, each with the block under it.
+    pub fn hat_index(&self) -> &HatIndex
+        ensures { IsIndexOf self.now result.now }
+    {
+        &self.hats
     }
 
     // The procedure of a target that is there.

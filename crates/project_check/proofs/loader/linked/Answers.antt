@@ -6,7 +6,7 @@ use Rattle.target_records.specs.Records.{records_in}
 use Rattle.block_checks.specs.Kept.{IsKept, IsRefusal, blocks_in}
 use Rattle.project_check.specs.Loaded.{Resolves}
 use Rattle.project_check.specs.Kept.{CachesAll}
-use Rattle.project_check.proofs.Resolved.{keeps, heads_of, count_of, as_many_names}
+use Rattle.project_check.proofs.Resolved.{keeps, heads_of, count_of, as_many_names, as_many_heads, indexed_of}
 use Rattle.project_check.proofs.Linking.{refused, told}
 use Rattle.project_check.proofs.loader.linked.Goals as goal
 
@@ -21,6 +21,11 @@ cache_all-requires c =
     as_many_names (records_in c.args.records) (records_in c.names.new.records) (blocks_in c.args.tables.items) c.in-Ok.links.items c.in_ok-names.names res
     ∙ length-map c.args.tables.items (λ b. b.blocks)
     ∙ ap length (sym c.deref-4.ensures.value)
+
+pub all_hats-requires : goal.all_hats-requires
+all_hats-requires c =
+    as_many_heads c.in_ok-heads.heads.items c.deref-7.result.now c.deref-6.result.now c.args.tables.items c.deref-6.ensures.value c.deref-7.ensures.value
+    (heads_of c.in_ok-heads.heads.items c.deref-5.result.now c.args.tables.items c.deref-5.ensures.value c.in_ok-heads.ensures)
 
 pub invariant_of-result : goal.invariant_of-result
 invariant_of-result c =
@@ -38,7 +43,9 @@ invariant_of-result c =
           res
           (subst (λ ts. CachesAll (blocks_in ts) c.in_ok-names.names c.in_ok-cached.cached.items) c.deref-4.ensures.value c.in_ok-cached.ensures)
           (heads_of c.in_ok-heads.heads.items c.deref-5.result.now c.args.tables.items c.deref-5.ensures.value c.in_ok-heads.ensures)
-          (count_of c.count-blocks.result c.deref-6.result.now c.args.tables.items c.deref-6.ensures.value c.count-blocks.ensures);
+          (count_of c.count-blocks.result c.deref-8.result.now c.args.tables.items c.deref-8.ensures.value c.count-blocks.ensures);
+      indexed = indexed_of c.in_ok-hats.hats c.in_ok-heads.heads.items c.deref-7.result.now c.deref-6.result.now c.args.tables.items c.deref-6.ensures.value c.deref-7.ensures.value
+          (heads_of c.in_ok-heads.heads.items c.deref-5.result.now c.args.tables.items c.deref-5.ensures.value c.in_ok-heads.ensures) c.in_ok-hats.ensures;
       told =
           let (bytes, r) = c.requires.source in
           ∣ (bytes, r.small, told bytes (records_in c.args.records) c.args.tables.items r (records_in c.names.new.records) c.in_ok-names.names c.in-Ok.links.items passes kept res) ∣₁;

@@ -14,22 +14,22 @@ pub returns-in-Ok-start-clause-ok : goal.returns-in-Ok-start-clause-ok
 returns-in-Ok-start-clause-ok g c =
     let left : (c.args.self.now.next_instance == last_number) ≡ false = cc (c.is_spent.ensures, c.if-is_spent.false) in
     clone_goes g.R.Rng.stream c.args.project.now c.args.slot c.args.original c.args.self.now c.requires.ready left c.requires.live c.add_copy.new.self c.in-Ok.ensures
-    c.start.new.threads c.start.new.next c.in-Ok-start.field-0 c.in-Ok-start.ensures.ok c.place_behind.new.self c.place_behind.ensures.new
+    c.start.new.threads c.start.new.next c.in-Ok-start.field-0 (c.in-Ok-start.ensures.ok c.args.project.now c.hat_index.ensures) c.place_behind.new.self c.place_behind.ensures.new
 
 pub returns-in-Ok-start-clause-runs : goal.returns-in-Ok-start-clause-runs
 returns-in-Ok-start-clause-runs g c =
     let left : (c.args.self.now.next_instance == last_number) ≡ false = cc (c.is_spent.ensures, c.if-is_spent.false) in
     clone_runs g.R.Rng.stream c.args.project.now c.args.slot c.args.original c.args.self.now c.requires.ready left c.requires.live c.add_copy.new.self c.in-Ok.ensures
-    c.start.new.threads c.start.new.next c.in-Ok-start.field-0 c.in-Ok-start.ensures.ok c.place_behind.new.self
+    c.start.new.threads c.start.new.next c.in-Ok-start.field-0 (c.in-Ok-start.ensures.ok c.args.project.now c.hat_index.ensures) c.place_behind.new.self
 
 pub returns-in-Ok-start-clause-kept : goal.returns-in-Ok-start-clause-kept
 returns-in-Ok-start-clause-kept g c =
     let left : (c.args.self.now.next_instance == last_number) ≡ false = cc (c.is_spent.ensures, c.if-is_spent.false) in
     clone_kept g.R.Rng.stream c.args.project.now c.args.slot c.args.original c.args.self.now c.requires.ready left c.requires.live c.add_copy.new.self c.in-Ok.ensures
-    c.start.new.threads c.start.new.next c.in-Ok-start.field-0 c.in-Ok-start.ensures.ok c.place_behind.new.self c.place_behind.ensures.new c.in-Ok-start.ensures.fits c.in-Ok-start.ensures.few
+    c.start.new.threads c.start.new.next c.in-Ok-start.field-0 (c.in-Ok-start.ensures.ok c.args.project.now c.hat_index.ensures) c.place_behind.new.self c.place_behind.ensures.new (c.in-Ok-start.ensures.fits c.args.project.now c.hat_index.ensures) c.in-Ok-start.ensures.few
 
 pub returns-clause-stop : goal.returns-clause-stop
 returns-clause-stop g c =
     let left : (c.args.self.now.next_instance == last_number) ≡ false = cc (c.is_spent.ensures, c.if-is_spent.false) in
     clone_stops g.R.Rng.stream c.args.project.now c.args.slot c.args.original c.args.self.now c.requires.ready left c.requires.live c.add_copy.new.self c.in-Ok.ensures
-    (List ℕ) (Unit {0}) c.in-Err-start.stop c.in-Err-start.ensures.stop
+    (List ℕ) (Unit {0}) c.in-Err-start.stop (c.in-Err-start.ensures.stop c.args.project.now c.hat_index.ensures)
