@@ -140,7 +140,6 @@ full_as : {A : Type 0} (b : Bool) (x : A) → (if b then Goes x else Full) ≡ F
 full_as true x h = absurd (cc h)
 full_as false x h = refl
 
-
 -- a stop of a level that was not opened is a stop of the run
 pub push_stop : (T U : Type 0) {A : Type 0} (e : PushStop) (s : Stop) (o : Outcome A) → stops_as e s → PushStopIs {T = T} (Err e) o → StopIs {T = U} (Err s) o
 push_stop T U push.Full s o is h = subst (λ x. StopIs {T = U} (Err x) o) (sym is) h

@@ -1,11 +1,8 @@
 -- Threads of which none is done, and none is detached.
-use Rattle.std.proofs.Common.{◌≡◌, ◌≤◌, Bool, true, false, List, [], ◌∷◌, length, Option, Some, None, is_some, refl, sym, ap, ap₂, ◌∙◌, arith, inl, inr}
+use Rattle.std.proofs.Common.{◌≡◌, ◌≤◌, Bool, true, false, List, [], ◌∷◌, length, refl, ap, arith, inl, inr}
 use Rattle.std.specs.Prelude.{filter, not}
 use Rattle.std.specs.List.{list_any}
 use Rattle.std.proofs.lemmas.Bool.{cases_Bool}
-use Rattle.machine_spec.specs.Threads.{is_done}
-use Rattle.machine_spec.specs.Places.{Places}
-use Rattle.thread_frames.specs.Threads.{Thread, without_done}
 
 module _ {X : Type 0} (p : X → Bool) where
   shorter : (xs : List X) → length (filter (λ x. not (p x)) xs) ≤ length xs

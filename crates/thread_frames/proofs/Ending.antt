@@ -5,11 +5,11 @@ use Rattle.instance_index.specs.Slots.{last_below}
 use Rattle.instance_index.proofs.Walk.{VisitedAbove, VisitedAbove-begin, VisitedAbove-then, VisitedAbove-end, mapped_from-is, slice_get-visited}
 use Rattle.machine_spec.specs.declared.threads.Which.{Which}
 use Rattle.machine_spec.specs.declared.threads.Which.TheVariants.{Slot}
-use Rattle.machine_spec.specs.Places.{Places, on_place, put, put_some, at_place}
+use Rattle.machine_spec.specs.Places.{Places, on_place, put, put_some}
 use Rattle.machine_spec.specs.Starting.{finished_from, finished_of, is_spared}
 use Rattle.shared_stacks.specs.declared.pool.Pool.{Pool}
 use Rattle.thread_frames.specs.Levels.{Level}
-use Rattle.thread_frames.specs.Entries.{Entry, seen, seen_all}
+use Rattle.thread_frames.specs.Entries.{Entry, seen}
 use Rattle.thread_frames.specs.Threads.{Thread, frames, finish}
 use Rattle.thread_frames.specs.Stopping.{is_some_stopped, stopped}
 use Rattle.thread_frames.specs.Indexing.{keys_of, instances_of}

@@ -1,11 +1,11 @@
 -- Lists in which each element is shown as another.
-use Rattle.std.proofs.Common.{◌≡◌, ℕ, zero, suc, ◌+◌, Bool, true, false, cond, List, [], ◌∷◌, map, position, Option, Some, None, option_map, slice_get, refl, sym, ap, ◌∙◌}
+use Rattle.std.proofs.Common.{◌≡◌, ℕ, zero, suc, ◌+◌, Bool, true, false, cond, List, [], ◌∷◌, map, position, Option, Some, option_map, slice_get, refl, sym, ap, ◌∙◌}
 use Rattle.std.specs.Prelude.{slice_set, find, ◌||◌}
 use Rattle.std.specs.List.{list_any, position_from}
 use Rattle.std.proofs.lemmas.Iterator.Adapters.{position_from-zero}
 use Rattle.machine_spec.specs.declared.threads.Which.{Which}
 use Rattle.machine_spec.specs.declared.threads.Which.TheVariants.{Slot, Detached}
-use Rattle.machine_spec.specs.Places.{Places, at_place, put, put_some, on_place, shown_by}
+use Rattle.machine_spec.specs.Places.{Places, at_place, put, shown_by}
 
 pub some_same : {A : Type 0} (a b : A) → Some a ≡ Some b → a ≡ b
 some_same a b e = cc

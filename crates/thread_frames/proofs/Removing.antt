@@ -1,27 +1,27 @@
 -- Threads are appended, swapped and taken away, as the pool sees it.
-use Rattle.std.proofs.Common.{◌≡◌, ℕ, zero, suc, ◌+◌, ◌<◌, ◌≤◌, List, [], ◌∷◌, ◌++◌, map, length, Bool, true, false, cond, Option, Some, None, option_map, slice_get, refl, sym, ap, ap₂, subst, ◌∙◌, arith, inl, inr}
+use Rattle.std.proofs.Common.{◌≡◌, ℕ, ◌≤◌, List, [], ◌∷◌, ◌++◌, map, length, Bool, true, false, cond, Option, Some, None, option_map, slice_get, refl, sym, ap, ap₂, subst, ◌∙◌, arith, inl, inr}
 use Rattle.std.specs.Prelude.{slice_set, filter, not}
 use Rattle.std.specs.List.{All, list_any}
 use Rattle.std.proofs.lemmas.Bool.{cases_Bool}
 use Rattle.std.proofs.lemmas.List.{append-nil}
-use Rattle.std.proofs.lemmas.List.Elements.{All-nil, All-cons, All-head, All-tail, All-same}
+use Rattle.std.proofs.lemmas.List.Elements.{All-nil, All-cons, All-head, All-tail}
 use Rattle.shared_stacks.specs.declared.stack.Stack.{Stack}
 use Rattle.shared_stacks.specs.declared.pool.Pool.{Pool}
-use Rattle.shared_stacks.specs.Chains.{values, used_at, times, keys}
+use Rattle.shared_stacks.specs.Chains.{values, used_at}
 use Rattle.shared_stacks.specs.Shared.{Stand, places}
 use Rattle.shared_stacks.proofs.Chains.{length-values}
-use Rattle.shared_stacks.proofs.Shared.{SameSlots, SameSlots-sym, SameSlots-then, SameSlots-beside, SameSlots-more, SameSlots-swapped, Stand-same}
+use Rattle.shared_stacks.proofs.Shared.{SameSlots, SameSlots-sym, SameSlots-beside, SameSlots-more, SameSlots-swapped, Stand-same}
 use Rattle.shared_stacks.proofs.Holders.{SameSlots-kept, IsBare, slice_get-stack}
 use Rattle.machine_spec.specs.declared.threads.Which.{Which}
-use Rattle.machine_spec.specs.declared.threads.Which.TheVariants.{Slot, Detached}
+use Rattle.machine_spec.specs.declared.threads.Which.TheVariants.{Detached}
 use Rattle.machine_spec.specs.Outcome.{most_levels}
-use Rattle.machine_spec.specs.Places.{Places, at_place, put, put_some, on_place}
+use Rattle.machine_spec.specs.Places.{Places, at_place, put_some, on_place}
 use Rattle.machine_spec.specs.Threads.{is_done}
 use Rattle.thread_frames.specs.Levels.{Level}
 use Rattle.thread_frames.specs.Threads.{Thread, Bare, finish, levels_of, with_levels, without_detached, without_done}
 use Rattle.thread_frames.specs.Entries.{Entry, seen, seen_all, stacks_of, stack_some, none_detached, none_done, is_done_entry}
-use Rattle.thread_frames.specs.Restarting.{IsLike, swapped}
-use Rattle.thread_frames.specs.Stopping.{emptied, emptied_all, DoneAreEmpty, IsEmptyIfDone}
+use Rattle.thread_frames.specs.Restarting.{swapped}
+use Rattle.thread_frames.specs.Stopping.{emptied, DoneAreEmpty, IsEmptyIfDone}
 use Rattle.thread_frames.proofs.Maps.{map-at, map-set, any-map, some_same}
 use Rattle.thread_frames.proofs.Kept.{stacks, is_in}
 use Rattle.thread_frames.proofs.Views.{few_listed}

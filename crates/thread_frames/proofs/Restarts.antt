@@ -1,11 +1,11 @@
 -- A thread that is replaced in its slot, step by step.
-use Rattle.std.proofs.Common.{◌≡◌, ℕ, ◌+◌, ◌-◌, ◌<◌, ◌≤◌, List, [], ◌∷◌, ◌++◌, length, Bool, true, false, cond, Option, Some, None, slice_get, refl, sym, ap, ap₂, ◌∙◌, arith}
-use Rattle.std.specs.Prelude.{sum_by, slice_set}
+use Rattle.std.proofs.Common.{◌≡◌, ℕ, ◌-◌, ◌<◌, ◌≤◌, [], ◌∷◌, Bool, true, false, cond, Option, Some, None, slice_get, sym, ap, ◌∙◌, arith}
+use Rattle.std.specs.Prelude.{slice_set}
 use Rattle.std.proofs.lemmas.Bool.{lt-ltb, le-ltb}
-use Rattle.machine_spec.specs.declared.threads.Which.TheVariants.{Slot, Detached}
-use Rattle.machine_spec.specs.Outcome.{Outcome, Goes, Full, with_room, most_levels}
-use Rattle.machine_spec.specs.Places.{Places, at_place, put, put_some, on_place, sum_some}
-use Rattle.thread_frames.specs.Levels.{Level, new_level}
+use Rattle.machine_spec.specs.declared.threads.Which.TheVariants.{Slot}
+use Rattle.machine_spec.specs.Outcome.{Goes, Full, with_room, most_levels}
+use Rattle.machine_spec.specs.Places.{Places, put, put_some, on_place}
+use Rattle.thread_frames.specs.Levels.{new_level}
 use Rattle.thread_frames.specs.Threads.{Thread, again, finish, on_levels, without_detached, new_bare, with_levels}
 use Rattle.thread_frames.specs.Restarting.{restarted, restarted_by, renewed, swapped}
 use Rattle.thread_frames.proofs.Opening.{open_in, depth, open-put, get_put, put_put}
@@ -54,10 +54,10 @@ module _ (slot serial target : ℕ) (first : Option ℕ) (t : Thread) (ts : Plac
       restarted-false
       ∙ has_room (open_in ts - depth t) (put (Slot slot) (again serial target first t) ts) room
       ∙ ap Goes (
-        ap (λ xs. record { list = xs; detached = ts.detached }) (sym (put_put ts.list slot r (again serial target first t)))
-        ∙ sym (ap (λ o. put_some o opened (Slot slot) (put (Slot slot) r ts)) (get_put ts.list slot t r at))
-        ∙ ap (on_place opened (Slot slot)) (sym (renewed_is us is))
-        ∙ sym put_is
+      ap (λ xs. record { list = xs; detached = ts.detached }) (sym (put_put ts.list slot r (again serial target first t)))
+      ∙ sym (ap (λ o. put_some o opened (Slot slot) (put (Slot slot) r ts)) (get_put ts.list slot t r at))
+      ∙ ap (on_place opened (Slot slot)) (sym (renewed_is us is))
+      ∙ sym put_is
       )
 
   -- The old thread becomes the detached one
@@ -86,8 +86,8 @@ module _ (slot serial target : ℕ) (first : Option ℕ) (t : Thread) (ts : Plac
       restarted-true
       ∙ has_room (open_in ts) (record { list = slice_set ts.list slot (again serial target first t); detached = Some t }) room
       ∙ ap Goes (
-        ap (λ ys. record { list = ys; detached = Some t }) (sym (put_put ts.list slot r (again serial target first t)))
-        ∙ sym (ap (λ o. put_some o opened (Slot slot) mid) (get_put ts.list slot t r at))
-        ∙ ap (on_place opened (Slot slot)) (sym (swapped_is us xs dropped is))
-        ∙ sym put_is
+      ap (λ ys. record { list = ys; detached = Some t }) (sym (put_put ts.list slot r (again serial target first t)))
+      ∙ sym (ap (λ o. put_some o opened (Slot slot) mid) (get_put ts.list slot t r at))
+      ∙ ap (on_place opened (Slot slot)) (sym (swapped_is us xs dropped is))
+      ∙ sym put_is
       )

@@ -1,10 +1,10 @@
 -- The levels of a thread in the pool, where they are changed.
-use Rattle.std.proofs.Common.{◌≡◌, ℕ, zero, suc, ◌+◌, ◌-◌, ◌<◌, ◌≤◌, List, [], ◌∷◌, ◌++◌, length, Option, Some, None, slice_get, refl, sym, ap, ap₂, subst, ◌∙◌, arith}
+use Rattle.std.proofs.Common.{◌≡◌, ℕ, ◌-◌, ◌<◌, List, [], ◌∷◌, length, Option, Some, None, slice_get, refl, sym, ap, subst, ◌∙◌, arith}
 use Rattle.std.specs.Prelude.{nat_lt}
 use Rattle.std.proofs.lemmas.Bool.Decides.{nat_tests}
 use Rattle.shared_stacks.specs.declared.stack.Stack.{Stack}
 use Rattle.shared_stacks.specs.declared.pool.Pool.{Pool}
-use Rattle.shared_stacks.specs.Chains.{IsIn, Moves, values, values_from, used}
+use Rattle.shared_stacks.specs.Chains.{IsIn, Moves, values, values_from}
 use Rattle.shared_stacks.specs.Lending.{with_top}
 use Rattle.shared_stacks.specs.Shared.{Stand}
 use Rattle.shared_stacks.proofs.Chains.{Moves-with_top, values-with_top, length-values}

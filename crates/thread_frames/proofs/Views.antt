@@ -1,11 +1,10 @@
 -- What is seen of threads, where one is changed.
-use Rattle.std.proofs.Common.{◌≡◌, ℕ, zero, suc, ◌+◌, ◌≤◌, List, [], ◌∷◌, ◌++◌, map, length, Option, Some, None, option_map, slice_get, refl, sym, ap, ap₂, ◌∙◌, arith}
-use Rattle.std.specs.Prelude.{sum_by, slice_set}
+use Rattle.std.proofs.Common.{◌≡◌, ℕ, ◌+◌, ◌≤◌, length, Option, Some, None, option_map, refl, sym, ap, ap₂, ◌∙◌, arith}
 use Rattle.shared_stacks.specs.declared.stack.Stack.{Stack}
 use Rattle.shared_stacks.specs.declared.pool.Pool.{Pool}
-use Rattle.shared_stacks.specs.Chains.{IsIn, Moves, times, keys, values, used, used_at}
+use Rattle.shared_stacks.specs.Chains.{Moves, times, keys, values, used, used_at}
 use Rattle.shared_stacks.specs.Shared.{Stand, depths, places}
-use Rattle.shared_stacks.proofs.Chains.{length-values, Moves-none}
+use Rattle.shared_stacks.proofs.Chains.{length-values}
 use Rattle.shared_stacks.proofs.Shared.{places-append, places-within, depths-append}
 use Rattle.shared_stacks.proofs.Holders.{shown-moved, shown-others, shown-other, depth-shown, slice_get-stack}
 use Rattle.machine_spec.specs.declared.threads.Which.{Which}

@@ -1,5 +1,4 @@
 -- What is kept beside threads: the pool of their levels, and the indexes; the invariant of `Threads` alone cites it.
-use Rattle.std.specs.Prelude.{ℕ}
 use Rattle.shared_stacks.specs.declared.pool.Pool.{Pool}
 use Rattle.shared_stacks.specs.Shared.{Stand}
 use Rattle.machine_spec.specs.Outcome.{most_levels}

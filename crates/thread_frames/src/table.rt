@@ -25,7 +25,7 @@ pub(crate) struct Table {
 
 impl Model for Table {
     ghost use Rattle.instance_index.specs.Slots.{last_below};
-ghost use Rattle.machine_spec.specs.Places.{Places};
+    ghost use Rattle.machine_spec.specs.Places.{Places};
     ghost use Rattle.thread_frames.specs.Entries.{Entry};
 
     ghost Value = { Places Entry };
@@ -184,9 +184,7 @@ impl Table {
     pub(crate) fn slot_of_hat(&self, of: InstanceId, hat: BlockId) -> Option<usize>
         ensures { result ≡ position (is_entry_of of hat) self.now.list }
     {
-        self.list
-            .iter()
-            .position(|entry| entry.thread.of() == of && entry.thread.hat() == hat)
+        self.list.iter().position(|entry| entry.thread.of() == of && entry.thread.hat() == hat)
     }
 
     // The last slot, below one, whose thread is of the instance.
@@ -208,6 +206,8 @@ impl Table {
     pub(crate) fn is_any_alive(&self, of: InstanceId, hat: BlockId) -> bool
         ensures { result ≡ list_any (is_alive_entry_of of hat) self.now.list }
     {
-        self.list.iter().any(|entry| entry.thread.of() == of && entry.thread.hat() == hat && !entry.thread.is_done())
+        self.list.iter().any(|entry| entry.thread.of() == of
+            && entry.thread.hat() == hat
+            && !entry.thread.is_done())
     }
 }

@@ -156,8 +156,9 @@ impl Threads {
         let Some(entry) = self.table.at_mut(Which::Slot(slot)) else {
             return;
         };
+        let stack = &mut entry.stack;
         if entry.thread.is_done() {
-            self.pool.clear(&mut entry.stack);
+            self.pool.clear(stack);
         }
     }
 

@@ -31,10 +31,10 @@ returns-then-has_called c =
     let left : 6 - c.loop-looked_at.looked_at ≡ suc (6 - (c.loop-looked_at.looked_at + 1)) = omega arith in
     let t = sym (c.has_called.ensures u) ∙ c.if-has_called.true in
     sym (
-      c.loop-looked_at.invariant.same
-      ∙ ap (λ n. machine.is_recursive c.args.code.now n (beneath sheet c.loop-looked_at.rest)) left
-      ∙ rec_step sheet c.args.code.now (6 - (c.loop-looked_at.looked_at + 1)) c.loop-looked_at.rest _ u at
-      ∙ ap (λ x. x || machine.is_recursive c.args.code.now (6 - (c.loop-looked_at.looked_at + 1)) (beneath sheet (without_top c.loop-looked_at.rest))) t
+    c.loop-looked_at.invariant.same
+    ∙ ap (λ n. machine.is_recursive c.args.code.now n (beneath sheet c.loop-looked_at.rest)) left
+    ∙ rec_step sheet c.args.code.now (6 - (c.loop-looked_at.looked_at + 1)) c.loop-looked_at.rest _ u at
+    ∙ ap (λ x. x || machine.is_recursive c.args.code.now (6 - (c.loop-looked_at.looked_at + 1)) (beneath sheet (without_top c.loop-looked_at.rest))) t
     )
 
 pub returns-in-None : goal.returns-in-None
@@ -63,7 +63,7 @@ returns c =
     let sheet = sheet_at c.args.target c.args.project.now in
     let none : 6 - c.loop-looked_at.looked_at ≡ 0 = omega arith in
     sym (
-      c.loop-looked_at.invariant.same
-      ∙ ap (λ n. machine.is_recursive c.args.code.now n (beneath sheet c.loop-looked_at.rest)) none
-      ∙ rec_zero sheet c.args.code.now c.loop-looked_at.rest c.loop-looked_at.invariant.under
+    c.loop-looked_at.invariant.same
+    ∙ ap (λ n. machine.is_recursive c.args.code.now n (beneath sheet c.loop-looked_at.rest)) none
+    ∙ rec_zero sheet c.args.code.now c.loop-looked_at.rest c.loop-looked_at.invariant.under
     )

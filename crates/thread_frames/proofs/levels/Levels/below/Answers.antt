@@ -1,7 +1,6 @@
-use Rattle.std.proofs.Common.{◌≡◌, List, sym, ap, ◌∙◌, add-one, arith, drop}
+use Rattle.std.proofs.Common.{◌≡◌, sym, ap, ◌∙◌, add-one, arith, drop}
 use Rattle.shared_stacks.specs.Chains.{values, without_top}
 use Rattle.shared_stacks.proofs.Chains.{without_top-drop}
-use Rattle.thread_frames.specs.Levels.{Level}
 use Rattle.thread_frames.proofs.levels.Levels.below.Goals as goal
 
 pub loop-step-preserved : goal.loop-step-preserved

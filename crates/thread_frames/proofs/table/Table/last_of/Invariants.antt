@@ -1,4 +1,4 @@
-use Rattle.std.proofs.Common.{◌≡◌, ◌≤◌, map, length}
+use Rattle.std.proofs.Common.{◌≡◌, ◌≤◌, map}
 use Rattle.instance_index.specs.Slots.{last_below}
 use Rattle.thread_frames.proofs.table.Table.last_of.Given as goal
 

@@ -1,8 +1,5 @@
 use Rattle.std.proofs.Common.{◌∙◌, refl}
-use Rattle.machine_spec.specs.Places.{Places}
-use Rattle.thread_frames.specs.Entries.{Entry}
-use Rattle.thread_frames.specs.Indexing.{AreIndexed, keys_of, key_of}
-use Rattle.thread_frames.proofs.Kept.{key}
+use Rattle.thread_frames.specs.Indexing.{keys_of}
 use Rattle.thread_frames.proofs.Keys.{key_more, seen_end}
 use Rattle.thread_frames.proofs.Removing.{Stand-more}
 use Rattle.thread_frames.proofs.threads.Threads.add.Goals as goal

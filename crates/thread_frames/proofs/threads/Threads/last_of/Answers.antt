@@ -1,4 +1,4 @@
-use Rattle.std.proofs.Common.{ℕ, List, length, map, refl, ap, ap₂, ◌∙◌, arith}
+use Rattle.std.proofs.Common.{ℕ, length, ap, ap₂, ◌∙◌}
 use Rattle.machine_spec.specs.Places.{Places}
 use Rattle.instance_index.specs.Slots.{last_below}
 use Rattle.thread_frames.specs.Indexing.{keys_of, instances_of}

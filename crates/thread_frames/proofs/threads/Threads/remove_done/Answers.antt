@@ -1,4 +1,4 @@
-use Rattle.std.proofs.Common.{List, None, filter, not, sym, subst, ap, ◌∙◌}
+use Rattle.std.proofs.Common.{List, None, sym, subst, ap, ◌∙◌}
 use Rattle.std.specs.List.{list_any}
 use Rattle.machine_spec.specs.Places.{Places}
 use Rattle.machine_spec.specs.Threads.{is_done}

@@ -1,6 +1,6 @@
 use Rattle.std.proofs.Common.{sym, ap, ap₂, ◌∙◌, arith}
 use Rattle.machine_spec.specs.declared.threads.Which.TheVariants.{Slot}
-use Rattle.thread_frames.specs.Threads.{Bare, with_levels, new_bare}
+use Rattle.thread_frames.specs.Threads.{with_levels, new_bare}
 use Rattle.thread_frames.specs.Restarting.{renewed}
 use Rattle.thread_frames.proofs.Kept.{is_in, kept_moved, bare_key, key}
 use Rattle.thread_frames.proofs.Views.{view_moved}

@@ -1,4 +1,4 @@
-use Rattle.std.proofs.Common.{refl, ap, arith}
+use Rattle.std.proofs.Common.{refl, arith}
 use Rattle.thread_frames.specs.Levels.{on_top, with_loop}
 use Rattle.thread_frames.proofs.Tops.{kept_top, view_top, read_in, read_empty}
 use Rattle.thread_frames.proofs.threads.Threads.set_loop.Goals as goal

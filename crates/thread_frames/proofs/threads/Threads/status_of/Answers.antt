@@ -1,7 +1,5 @@
-use Rattle.std.proofs.Common.{Some, None, sym, ap, ◌∙◌}
+use Rattle.std.proofs.Common.{Some, ap, ◌∙◌}
 use Rattle.std.specs.Option.{option_map}
-use Rattle.machine_spec.specs.Places.{Places}
-use Rattle.thread_frames.specs.Threads.{Thread}
 use Rattle.thread_frames.specs.Entries.{Entry}
 use Rattle.thread_frames.proofs.Waits.{status_by_entries}
 use Rattle.thread_frames.proofs.threads.Threads.status_of.Goals as goal

@@ -23,8 +23,8 @@ pub returns-clause-found : goal.returns-clause-found
 returns-clause-found c =
     let inside = is_in c.self.inside.pool c.args.which c.in-Some.entry.now c.self.inside.table c.self.invariant.stand (sym c.in-Some.ensures.entry) in
     ap (nat_lt 0) (
-      c.depth.ensures
-      ∙ sym (length-values c.unwind.new.pool c.unwind.new.stack (IsIn-moved c.self.inside.pool c.unwind.new.pool _ _ c.unwind.ensures.moved inside))
-      ∙ ap length c.unwind.ensures.values
-      ∙ ap (λ o. length (unwound (levels_of o))) (sym (there c.self.inside.pool c.args.which c.in-Some.entry.now c.self.inside.table _ c.self.view_is (sym c.in-Some.ensures.entry)))
+    c.depth.ensures
+    ∙ sym (length-values c.unwind.new.pool c.unwind.new.stack (IsIn-moved c.self.inside.pool c.unwind.new.pool _ _ c.unwind.ensures.moved inside))
+    ∙ ap length c.unwind.ensures.values
+    ∙ ap (λ o. length (unwound (levels_of o))) (sym (there c.self.inside.pool c.args.which c.in-Some.entry.now c.self.inside.table _ c.self.view_is (sym c.in-Some.ensures.entry)))
     )

@@ -1,4 +1,4 @@
-use Rattle.std.proofs.Common.{◌≡◌, None, sym, subst, ap, ap₂, ◌∙◌, ℕ, refl}
+use Rattle.std.proofs.Common.{◌≡◌, None, sym, subst, ap, ap₂, ◌∙◌, refl}
 use Rattle.machine_spec.specs.Places.{Places}
 use Rattle.machine_spec.specs.declared.threads.Which.TheVariants.{Slot}
 use Rattle.thread_frames.specs.Entries.{Entry}

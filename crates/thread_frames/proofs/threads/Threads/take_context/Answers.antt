@@ -1,4 +1,4 @@
-use Rattle.std.proofs.Common.{refl, ap, sym, ◌∙◌, arith}
+use Rattle.std.proofs.Common.{refl, ap, ◌∙◌, arith}
 use Rattle.machine_spec.specs.declared.threads.Context.TheVariants.{Fresh}
 use Rattle.thread_frames.specs.Levels.{on_top, with_context, top_context}
 use Rattle.thread_frames.proofs.Tops.{kept_top, view_top, read_in, read_empty, read_levels, top_context-first}
