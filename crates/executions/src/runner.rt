@@ -70,7 +70,7 @@ impl<R: Rng + Drop> State<R> {
     pub(crate) fn block_of(&self, runner: &Runner) -> Option<BlockId>
         ensures { result ≡ top_block (levels_of (at_place runner.now.which self.now.threads)) }
     {
-        match self.threads.level(runner.which, 0) {
+        match self.threads.top(runner.which) {
             Some(top) => top.block,
             None => None,
         }

@@ -91,7 +91,7 @@ pub fn slice<R: Rng + Drop>(
 fn has_block(threads: &Threads, which: Which) -> bool
     ensures { result ≡ is_some (top_block (levels_of (at_place which threads.now))) }
 {
-    match threads.level(which, 0) {
+    match threads.top(which) {
         Some(level) => level.block.is_some(),
         None => false,
     }
