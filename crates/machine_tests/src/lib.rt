@@ -8,6 +8,8 @@ mod frames_tests;
 #[cfg(test)]
 mod hats_tests;
 #[cfg(test)]
+mod level_tests;
+#[cfg(test)]
 mod lines_tests;
 #[cfg(test)]
 mod sequencer_tests;
