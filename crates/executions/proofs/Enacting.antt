@@ -46,8 +46,7 @@ use Rattle.thread_frames.specs.Reading.{beneath, task}
 use Rattle.thread_frames.specs.Fit.{kind_of, top_at, IsHeld, IsReadyAt}
 use Rattle.thread_moves.proofs.Items.{block_at_is}
 use Rattle.thread_frames.specs.Threads.{Thread, frames, levels_of, on_levels}
-use Rattle.thread_frames.specs.Counting.{open_in}
-use Rattle.thread_frames.proofs.Counts.{open_in-put, length-on_top}
+use Rattle.thread_frames.proofs.Opening.{open_in, open-put, length-on_top}
 use Rattle.thread_moves.specs.Ranked.{IsRanked}
 use Rattle.thread_moves.proofs.Moves.{cached_is}
 use Rattle.executions.specs.declared.state.State.{State}
@@ -219,7 +218,7 @@ module _ {R : Type 0} (stream : R → Stream) (p : Project) (i : ℕ) (which : W
     same_open : open_levels frames mid ≡ open_levels frames w.threads
     same_open =
         let t = ready.thread in
-        let e = open_in-put which t (without t) w.threads (found p i n.id w ready facts.holds which at mid taken) in
+        let e = open-put which t (without t) w.threads (found p i n.id w ready facts.holds which at mid taken) in
         let m : open_in mid ≡ open_in (put which (without t) w.threads) = ap open_in (mid_is p i n.id w ready facts.holds which at mid taken) in
         omega (arith, e, m, length-on_top (with_context Fresh) t.levels)
 

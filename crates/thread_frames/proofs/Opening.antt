@@ -6,7 +6,7 @@ use Rattle.machine_spec.specs.declared.threads.Which.{Which}
 use Rattle.machine_spec.specs.declared.threads.Which.TheVariants.{Slot, Detached}
 use Rattle.machine_spec.specs.Places.{Places, at_place, put, put_some, on_place, sum_some}
 use Rattle.machine_spec.specs.Starting.{open_levels}
-use Rattle.thread_frames.specs.Levels.{Level}
+use Rattle.thread_frames.specs.Levels.{Level, on_top}
 use Rattle.thread_frames.specs.Threads.{Thread, frames, on_levels}
 
 abbrev pub depth : Thread → ℕ
@@ -14,6 +14,11 @@ depth t = length t.levels
 
 abbrev pub open_in : Places Thread → ℕ
 open_in ts = open_levels frames ts
+
+-- a change of the top level leaves as many levels
+pub length-on_top : (f : Level → Level) (ls : List Level) → length (on_top f ls) ≡ length ls
+length-on_top f [] = refl
+length-on_top f (l ∷ ls) = refl
 
 sum_set : (xs : List Thread) (i : ℕ) (t u : Thread) → slice_get xs i ≡ Some t → sum_by depth (slice_set xs i u) + depth t ≡ sum_by depth xs + depth u
 sum_set [] i t u at = absurd (cc)

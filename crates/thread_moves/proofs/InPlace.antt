@@ -13,7 +13,6 @@ use Rattle.machine_spec.specs.declared.threads.Report.{Report}
 use Rattle.machine_spec.proofs.Placing.{put_at, put_self, on_is, on_twice}
 use Rattle.project_check.specs.declared.project.Project.{Project}
 use Rattle.project_check.specs.Loaded.{sheet_at}
-use Rattle.thread_frames.specs.Counting.{open_in}
 use Rattle.thread_frames.specs.declared.level.Level.{Level}
 use Rattle.thread_frames.specs.Levels.{on_top, without_top, warp_flag}
 use Rattle.thread_frames.specs.Reading.{beneath}
@@ -21,7 +20,7 @@ use Rattle.thread_frames.specs.Stops.{PushStopIs}
 use Rattle.thread_frames.specs.Threads.{Thread, frames, levels_of, on_levels, with_status}
 use Rattle.thread_frames.specs.declared.stops.PushStop.{PushStop}
 use Rattle.thread_frames.specs.declared.stops.PushStop.TheVariants as stop
-use Rattle.thread_frames.proofs.Counts.{length-on_top, open_in-put}
+use Rattle.thread_frames.proofs.Opening.{open_in, open-put, length-on_top}
 use Rattle.thread_moves.specs.Moves.{IsAtBlock, MovesOn, OnlyLevels, levels_at, with_levels}
 use Rattle.thread_moves.specs.Standing.{IsAt, MovesTo, TopHolds}
 
@@ -82,7 +81,7 @@ module _ (which : Which) where
   pub open_moved : (ts new : Places Thread) (t : Thread) → at_place which ts ≡ Some t → OnlyLevels which ts new → open_levels frames new + length (levels_at which ts) ≡ open_levels frames ts + length (levels_at which new)
   open_moved ts new t found only =
       let u : Thread = record t { levels = levels_at which new } in
-      let e = open_in-put which t u ts found in
+      let e = open-put which t u ts found in
       let s : open_in new ≡ open_in (put which u ts) = ap open_in (on_is (on_levels (λ ls. levels_at which new)) which ts new t found only) in
       omega (arith, e, s, ap (λ o. length (levels_of o)) found)
 

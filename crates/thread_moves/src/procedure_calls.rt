@@ -60,7 +60,7 @@ fn is_recursive(
     ensures { result ≡ machine.is_recursive code.now 6 (pending (sheet_at target project.now) (levels_at which threads.now)) }
 {
     let mut rest = threads.levels_at(which).under();
-    for looked_at in 0..6 {
+    for looked_at in 0..6u32 {
         match rest.top() {
             Some(level) => {
                 if has_called(project, target, level, code) {

@@ -21,7 +21,7 @@ returns-clause-at c =
     (IsAt-move _ _ _ _ _ _ (sym (next_is _ _ _ c.linked-block.ensures.ranked c.requires _ (levels_are c.args.which (on_top (at_next c.linked-block.result.now.next)) _ _ c.go_next.ensures refl ∙ ap (λ x. on_top (at_next x.next) (levels_at c.args.which c.args.threads.now)) (cached_is _ _ _ c.linked-block.ensures.ranked c.requires _ c.linked-block.ensures.block))).1) refl c.settle.ensures.at)
 
 pub returns-clause-fewer : goal.returns-clause-fewer
-returns-clause-fewer c = omega (Rattle.std.proofs.Common.arith, c.settle.ensures.fewer, ap Rattle.std.proofs.Common.length (levels_are c.args.which (on_top (at_next c.linked-block.result.now.next)) _ _ c.go_next.ensures refl), Rattle.thread_frames.proofs.Counts.length-on_top (at_next c.linked-block.result.now.next) (levels_at c.args.which c.args.threads.now))
+returns-clause-fewer c = omega (Rattle.std.proofs.Common.arith, c.settle.ensures.fewer, ap Rattle.std.proofs.Common.length (levels_are c.args.which (on_top (at_next c.linked-block.result.now.next)) _ _ c.go_next.ensures refl), Rattle.thread_frames.proofs.Opening.length-on_top (at_next c.linked-block.result.now.next) (levels_at c.args.which c.args.threads.now))
 
 pub returns-clause-only : goal.returns-clause-only
 returns-clause-only c = only_then c.args.which _ _ _ (only_on c.args.which (on_top (at_next c.linked-block.result.now.next)) _ _ c.go_next.ensures) c.settle.ensures.only

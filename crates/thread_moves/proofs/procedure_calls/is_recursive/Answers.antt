@@ -5,7 +5,8 @@ use Rattle.std.specs.Option.{option_copied}
 use Rattle.machine_spec.specs.Pending as machine
 use Rattle.project_check.specs.Loaded.{sheet_at}
 use Rattle.thread_frames.specs.Fit.{AllUnder}
-use Rattle.thread_frames.specs.Levels.{Level, without_top}
+use Rattle.thread_frames.specs.declared.level.Level.{Level}
+use Rattle.thread_frames.specs.Levels.{without_top}
 use Rattle.thread_frames.specs.Reading.{beneath}
 use Rattle.thread_moves.specs.Moves.{levels_at}
 use Rattle.thread_moves.proofs.Recursion.{rec_start, rec_none, rec_step, rec_zero, under_first, under_rest}
@@ -49,13 +50,13 @@ loop-looked_at-preserved c =
     let left : 6 - c.loop-looked_at.looked_at ≡ suc (6 - (c.loop-looked_at.looked_at + 1)) = omega arith in
     let t = sym (c.has_called.ensures u) ∙ c.if-has_called.false in
     record {
-      under = subst (AllUnder sheet) (sym c.under.ensures) (under_rest sheet c.args.code.now c.loop-looked_at.rest c.loop-looked_at.invariant.under);
+      under = subst (AllUnder sheet) (sym c.under-rest-in-loop-looked_at.ensures) (under_rest sheet c.args.code.now c.loop-looked_at.rest c.loop-looked_at.invariant.under);
       same =
           c.loop-looked_at.invariant.same
           ∙ ap (λ n. machine.is_recursive c.args.code.now n (beneath sheet c.loop-looked_at.rest)) left
           ∙ rec_step sheet c.args.code.now (6 - (c.loop-looked_at.looked_at + 1)) c.loop-looked_at.rest _ u at
           ∙ ap (λ x. x || machine.is_recursive c.args.code.now (6 - (c.loop-looked_at.looked_at + 1)) (beneath sheet (without_top c.loop-looked_at.rest))) t
-          ∙ ap (λ (ls : List Level). machine.is_recursive c.args.code.now (6 - (c.loop-looked_at.looked_at + 1)) (beneath sheet ls)) (sym c.under.ensures);
+          ∙ ap (λ (ls : List Level). machine.is_recursive c.args.code.now (6 - (c.loop-looked_at.looked_at + 1)) (beneath sheet ls)) (sym c.under-rest-in-loop-looked_at.ensures);
     }
 
 pub returns : goal.returns

@@ -10,5 +10,5 @@ use Rattle.thread_moves.proofs.procedure_calls.is_recursive.Given as goal
 abbrev pub invariant-loop-looked_at : goal.invariant-loop-looked_at
 invariant-loop-looked_at l = record {
   under : AllUnder (sheet_at l.target l.project) l.rest;
-  same : machine.is_recursive l.code 6 (pending (sheet_at l.target l.project) (levels_at l.which l.threads)) ≡ machine.is_recursive l.code (6 - l.looked_at) (beneath (sheet_at l.target l.project) l.rest);
+  same : machine.is_recursive l.code 6 (pending (sheet_at l.target l.project) (levels_at l.fn.which l.threads)) ≡ machine.is_recursive l.code (6 - l.looked_at) (beneath (sheet_at l.target l.project) l.rest);
 }
