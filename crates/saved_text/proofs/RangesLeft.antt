@@ -1,11 +1,11 @@
 -- What is left to do is in range where the levels are.
-use Rattle.std.proofs.Common.{◌≡◌, ℕ, suc, Bool, true, false, List, [], ◌∷◌, ◌++◌, length, map, slice_get, Option, Some, None, refl, sym, ap, ◌∙◌, subst, arith, ◌<◌, ◌≤◌, inl, inr}
+use Rattle.std.proofs.Common.{◌≡◌, ℕ, suc, Bool, true, false, List, [], ◌∷◌, length, map, slice_get, Option, Some, None, refl, subst, arith, inl, inr}
 use Rattle.std.specs.List.{All}
 use Rattle.std.proofs.lemmas.List.Elements.{All-append, All-cons, All-head, All-nil, All-tail}
 use Rattle.std.proofs.lemmas.Option.{slice_get_cases}
 use Rattle.machine_spec.specs.declared.threads.Context.{Context}
 use Rattle.machine_spec.specs.declared.threads.Context.TheVariants.{Fresh, Repeat, Wait, Glide, Started, Asked, Spoken, Called}
-use Rattle.machine_spec.specs.Pending.{Item, dos}
+use Rattle.machine_spec.specs.Pending.{dos}
 use Rattle.machine_spec.specs.Script.{Script, End, Then, Statement}
 use Rattle.machine_spec.specs.Threads.{Params}
 use Rattle.project_spec.specs.declared.blocks.Block.{Block}

@@ -1,6 +1,6 @@
 //! Threads with their levels.
 
-ghost use Rattle.std.specs.Prelude.{◌≡◌, OnOk, ⊤};
+ghost use Rattle.std.specs.Prelude.{◌≡◌, OnOk, ⊤, reverse, take};
 ghost use Rattle.std.specs.List.{All};
 ghost use Rattle.serde_json.specs.Data.{string};
 ghost use Rattle.serde_json.specs.Events.{SendsValue};
@@ -8,6 +8,7 @@ ghost use Rattle.saved_spec.specs.Ranges.{IsBlock};
 ghost use Rattle.saved_spec.specs.Rows.{each};
 ghost use Rattle.saved_spec.specs.Threads as form;
 ghost use Rattle.saved_text.specs.Ranges as range;
+ghost use Rattle.saved_text.specs.Sending.{SendsEach};
 ghost use Rattle.saved_text.specs.Threads as saved;
 ghost use Rattle.thread_frames.specs.Reading.{params_in};
 
@@ -17,7 +18,7 @@ use machine_spec::{BlockId, InstanceId, Serial, Status, Which};
 use project_json::Text;
 use scratch_values::Value;
 use serde::Serializer;
-use thread_frames::{Level, Levels, Thread, Threads};
+use thread_frames::{Level, Levels, Threads};
 
 impl Saved for Option<BlockId> {
     ghost as_data = { form.block };
@@ -55,7 +56,39 @@ impl Saved for Level {
     }
 }
 
-impl Saved for Levels {
+// Sends so many of the topmost levels, or all where there are fewer, from the lowest of them up. Levels are read from the top
+// down, so the lower half is gone to and sent first: to go down anew to each level would take the square of the depth.
+fn send_topmost<S: Serializer>(
+    levels: &Levels<'_>,
+    count: usize,
+    out: &mut S,
+) -> Result<(), S::Error>
+    ensures sent { OnOk result (SendsEach saved.level (reverse (take count levels.now)) (S.written out.old) (S.written out.new)) }
+    ensures ranges { OnOk result (All range.IsLevel (take count levels.now)) }
+{
+    if count == 0 {
+        return Ok(());
+    }
+    if count == 1 {
+        return send_top(levels, out);
+    }
+    let half = count / 2;
+    send_topmost(&levels.below(half), count - half, out)?;
+    send_topmost(levels, half, out)
+}
+
+// Sends the top level, if there is one.
+fn send_top<S: Serializer>(levels: &Levels<'_>, out: &mut S) -> Result<(), S::Error>
+    ensures sent { OnOk result (SendsEach saved.level (take 1 levels.now) (S.written out.old) (S.written out.new)) }
+    ensures ranges { OnOk result (All range.IsLevel (take 1 levels.now)) }
+{
+    match levels.top() {
+        Some(level) => level.send(out),
+        None => Ok(()),
+    }
+}
+
+impl Saved for Levels<'_> {
     ghost as_data = { saved.levels };
 
     ghost in_range = { All range.IsLevel };
@@ -63,10 +96,7 @@ impl Saved for Levels {
     fn send<S: Serializer>(&self, out: &mut S) -> Result<(), S::Error> {
         let depth = self.depth();
         out.begin_seq(Some(depth))?;
-        for place in 0..depth {
-            let level = self.get(depth - 1 - place).unwrap();
-            level.send(out)?;
-        }
+        send_topmost(self, depth, out)?;
         out.end_seq()
     }
 }
@@ -90,7 +120,7 @@ impl Saved for Status {
 #[tactic(auto, unfolding(saved_spec::specs::Threads::thread_of))]
 fn send_thread<S: Serializer>(
     hat: BlockId,
-    levels: &Levels,
+    levels: &Levels<'_>,
     number: Serial,
     of: InstanceId,
     status: Status,
@@ -108,23 +138,6 @@ fn send_thread<S: Serializer>(
     out.end_map()
 }
 
-impl Saved for Thread {
-    ghost as_data = { saved.thread };
-
-    ghost in_range = { range.IsThread };
-
-    fn send<S: Serializer>(&self, out: &mut S) -> Result<(), S::Error> {
-        send_thread(
-            self.hat(),
-            self.levels(),
-            self.serial(),
-            self.of(),
-            self.status(),
-            out,
-        )
-    }
-}
-
 impl Saved for Threads {
     ghost as_data = { λ ts. each saved.thread ts.list };
 
@@ -135,7 +148,14 @@ impl Saved for Threads {
         out.begin_seq(Some(count as usize))?;
         for slot in 0..count {
             let thread = self.thread(Which::Slot(slot)).unwrap();
-            thread.send(out)?;
+            send_thread(
+                thread.hat(),
+                &self.levels_at(Which::Slot(slot)),
+                thread.serial(),
+                thread.of(),
+                thread.status(),
+                out,
+            )?;
         }
         out.end_seq()
     }
