@@ -6,9 +6,10 @@ use machine_spec::{
 use project_json::Text;
 use scratch_values::{Params, Value};
 use std::process::Abort;
-use thread_frames::{Levels, PushStop, Threads};
+use thread_frames::{Levels, Threads};
 
 mod parts;
+mod room;
 
 const CAT: InstanceId = InstanceId(1);
 
@@ -67,76 +68,97 @@ fn block_at(threads: &Threads, which: Which, from_top: u32) -> Option<BlockId> {
     }
 }
 
+fn top_of(levels: &Levels<'_>) -> Option<BlockId> {
+    match levels.top() {
+        Some(level) => level.block,
+        None => None,
+    }
+}
+
+// The levels of one thread are opened and given up, and those of another stay.
 #[test]
 fn levels_are_opened_and_given_up(rt: HostRuntime) {
-    let mut levels = Levels::new(rt.alloc());
-    levels.push(FIRST, false).expect(&rt, "memory");
-    levels.push(INNER, true).expect(&rt, "memory");
-    assert_eq!(rt; levels.depth(), 2);
+    let mut threads = two(&rt);
+    let cat = Which::Slot(0);
+    threads.push(cat, INNER, true).expect(&rt, "room");
+    assert_eq!(rt; threads.depth(cat), 2);
     assert!(rt;
-        levels
-            .get(1)
+        threads
+            .level(cat, 1)
             .is_some_and(|level| level.block == FIRST && !level.warp)
     );
-    assert!(rt; levels.get(2).is_none());
-    levels.go_next(NEXT);
+    assert!(rt; threads.level(cat, 2).is_none());
+    threads.go_next(cat, NEXT);
     assert!(rt;
-        levels
-            .top()
+        threads
+            .top(cat)
             .is_some_and(|level| level.block == NEXT && level.warp)
     );
-    levels.pop();
-    assert!(rt; levels.top().is_some_and(|level| level.block == FIRST));
-    levels.restart(INNER).expect(&rt, "memory");
-    assert!(rt; levels.top().is_some_and(|level| level.block == INNER));
-    levels.clear();
-    assert_eq!(rt; levels.depth(), 0);
-    levels.restart(FIRST).expect(&rt, "memory");
-    assert_eq!(rt; levels.depth(), 1);
-    drop(levels);
+    assert!(rt; threads.pop(cat));
+    assert!(rt; threads.top(cat).is_some_and(|level| level.block == FIRST));
+    assert!(rt; !threads.pop(cat));
+    assert_eq!(rt; threads.depth(cat), 0);
+    assert!(rt; threads.top(cat).is_none());
+    assert!(rt; !threads.pop(cat));
+    assert_eq!(rt; threads.depth(Which::Slot(1)), 1);
+    threads.push(cat, INNER, false).expect(&rt, "room");
+    assert!(rt; threads.top(cat).is_some_and(|level| level.block == INNER));
+    assert_eq!(rt; threads.levels(), 2);
+}
+
+// The levels of two threads that were opened in turn are each read from the top.
+#[test]
+fn levels_are_read_from_the_top(rt: HostRuntime) {
+    let mut threads = two(&rt);
+    let cat = Which::Slot(0);
+    let dog = Which::Slot(1);
+    threads.push(cat, INNER, false).expect(&rt, "room");
+    threads.push(dog, INNER, false).expect(&rt, "room");
+    threads.push(cat, NEXT, false).expect(&rt, "room");
+    let levels = threads.levels_at(cat);
+    assert_eq!(rt; levels.depth(), 3);
+    assert_eq!(rt; top_of(&levels), NEXT);
+    assert_eq!(rt; levels.under().depth(), 2);
+    assert_eq!(rt; top_of(&levels.under()), INNER);
+    assert_eq!(rt; top_of(&levels.under().under()), FIRST);
+    assert_eq!(rt; levels.below(0).depth(), 3);
+    assert_eq!(rt; top_of(&levels.below(2)), FIRST);
+    assert_eq!(rt; levels.below(3).depth(), 0);
+    assert!(rt; levels.below(3).top().is_none());
+    assert_eq!(rt; levels.below(9).depth(), 0);
+    assert_eq!(rt; levels.below(9).under().depth(), 0);
+    assert_eq!(rt; threads.levels_at(dog).depth(), 2);
+    assert_eq!(rt; top_of(&threads.levels_at(dog)), INNER);
+    assert_eq!(rt; threads.levels_at(Which::Slot(2)).depth(), 0);
+    assert_eq!(rt; threads.levels_at(Which::Detached).depth(), 0);
 }
 
 #[test]
 fn a_level_keeps_what_it_is_given(rt: HostRuntime) {
-    let mut levels = Levels::new(rt.alloc());
-    levels.push(FIRST, false).expect(&rt, "memory");
-    levels.set_loop(true);
-    levels.set_context(Context::Repeat(Count::Whole(3)));
-    assert!(rt; levels.top().is_some_and(|level| level.is_loop));
-    let context = levels.take_context();
+    let mut threads = two(&rt);
+    let cat = Which::Slot(0);
+    threads.set_loop(cat, true);
+    threads.set_context(cat, Context::Repeat(Count::Whole(3)));
+    assert!(rt; threads.top(cat).is_some_and(|level| level.is_loop));
+    let context = threads.take_context(cat);
     assert!(rt; matches!(context, Context::Repeat(Count::Whole(3))));
-    let left = levels.take_context();
+    let left = threads.take_context(cat);
     assert!(rt; matches!(left, Context::Fresh));
-    drop(levels);
 }
 
 #[test]
 fn parameters_are_seen_from_above(rt: HostRuntime) {
-    let mut levels = Levels::new(rt.alloc());
-    levels.push(FIRST, false).expect(&rt, "memory");
-    assert!(rt; levels.params().is_none());
-    levels.set_params(params(&rt));
-    levels.push(INNER, false).expect(&rt, "memory");
+    let mut threads = two(&rt);
+    let cat = Which::Slot(0);
+    assert!(rt; threads.params(cat).is_none());
+    threads.set_params(cat, params(&rt));
+    threads.push(cat, INNER, false).expect(&rt, "room");
     assert!(rt;
-        levels
-            .params()
+        threads
+            .params(cat)
             .is_some_and(|params| params.value("n").is_some())
     );
-    drop(levels);
-}
-
-#[test]
-fn a_script_is_left_up_to_its_call(rt: HostRuntime) {
-    let mut levels = Levels::new(rt.alloc());
-    levels.push(FIRST, false).expect(&rt, "memory");
-    levels.set_context(Context::Called);
-    levels.push(INNER, false).expect(&rt, "memory");
-    levels.push(NEXT, false).expect(&rt, "memory");
-    assert!(rt; levels.unwind());
-    assert!(rt; levels.top().is_some_and(|level| level.block == FIRST));
-    assert!(rt; !levels.unwind());
-    assert_eq!(rt; levels.depth(), 0);
-    drop(levels);
+    assert!(rt; threads.params(Which::Slot(1)).is_none());
 }
 
 #[test]
@@ -154,7 +176,7 @@ fn threads_are_appended_and_found(rt: HostRuntime) {
     assert_eq!(rt; thread.target(), SPRITE);
     assert_eq!(rt; thread.hat(), KEY);
     assert!(rt; !thread.is_done());
-    assert_eq!(rt; thread.levels().depth(), 1);
+    assert_eq!(rt; threads.depth(Which::Slot(1)), 1);
     assert!(rt; threads.thread(Which::Slot(2)).is_none());
 }
 
@@ -220,21 +242,9 @@ fn a_script_is_stopped_up_to_its_call(rt: HostRuntime) {
     threads.push(cat, NEXT, false).expect(&rt, "room");
     assert!(rt; threads.stop_this_script(cat));
     assert_eq!(rt; threads.levels(), 2);
+    assert_eq!(rt; block_at(&threads, cat, 0), FIRST);
     assert!(rt; !threads.stop_this_script(cat));
     assert_eq!(rt; threads.levels(), 1);
-}
-
-#[test]
-fn levels_are_lent(rt: HostRuntime) {
-    let mut threads = two(&rt);
-    let mut levels = threads.take_levels(Which::Slot(0));
-    assert_eq!(rt; threads.levels(), 1);
-    levels.push(INNER, false).expect(&rt, "memory");
-    assert!(rt; threads.levels() == 1);
-    assert!(rt; levels.depth() == 2);
-    threads.put_levels(Which::Slot(0), levels);
-    assert_eq!(rt; threads.levels(), 3);
-    assert_eq!(rt; block_at(&threads, Which::Slot(0), 0), INNER);
 }
 
 #[test]
@@ -323,24 +333,4 @@ fn a_block_waits_for_threads(rt: HostRuntime) {
     assert!(rt; matches!(threads.wait_for(&serials), Control::YieldTick));
     threads.clear();
     assert!(rt; matches!(threads.wait_for(&serials), Control::Next));
-}
-
-#[test]
-fn at_most_65536_levels_are_open(rt: HostRuntime) {
-    let mut threads = two(&rt);
-    for _ in 2..65_536 {
-        threads
-            .push(Which::Slot(0), INNER, false)
-            .expect(&rt, "room");
-    }
-    assert_eq!(rt; threads.levels(), 65_536);
-    let full = Err(PushStop::Full);
-    assert_eq!(rt; threads.push(Which::Slot(1), INNER, false), full);
-    assert_eq!(rt; threads.append(Serial(12), DOG, SPRITE, FLAG, FIRST), full);
-    assert_eq!(rt; threads.replace(0, Serial(12), SPRITE, FIRST, true), full);
-    assert_eq!(rt;
-        threads.replace(0, Serial(12), SPRITE, FIRST, false),
-        Ok(())
-    );
-    assert_eq!(rt; threads.levels(), 2);
 }

@@ -1,8 +1,8 @@
-//! Levels and threads that are made again.
+//! Threads that are made again.
 
 use super::{CAT, DOG, FIRST, FLAG, INNER, KEY, SPRITE, block_at, serial_at, status_at};
 use machine_spec::{BlockId, Context, Serial, Status, Which};
-use thread_frames::{Level, Levels, ThreadPart, Threads};
+use thread_frames::{Level, ThreadPart, Threads};
 
 // A level that was just opened.
 fn level_of(block: Option<BlockId>) -> Level {
@@ -13,22 +13,6 @@ fn level_of(block: Option<BlockId>) -> Level {
         context: Context::Fresh,
         params: None,
     }
-}
-
-// The last level that is given is the top one.
-#[test]
-fn levels_are_made_from_the_bottom(rt: HostRuntime) {
-    let mut given = Vec::new(rt.alloc());
-    for block in [FIRST, INNER] {
-        given.push(level_of(block)).expect(&rt, "memory");
-    }
-    let levels = Levels::from_vec(given);
-    assert_eq!(rt; levels.depth(), 2);
-    assert!(rt;
-        levels
-            .top()
-            .is_some_and(|level| level.block == INNER && level.warp)
-    );
 }
 
 // A thread of the dog that waits for the next pass, with two levels, the last of which is the top one, and then one of the cat that is done.
@@ -66,5 +50,8 @@ fn threads_are_made_from_their_parts(rt: HostRuntime) {
         Some(Status::YieldTick)
     );
     assert_eq!(rt; block_at(&threads, Which::Slot(0), 0), INNER);
+    assert_eq!(rt; block_at(&threads, Which::Slot(0), 1), FIRST);
+    assert!(rt; threads.top(Which::Slot(0)).is_some_and(|level| level.warp));
+    assert_eq!(rt; threads.depth(Which::Slot(1)), 0);
     drop(threads);
 }
