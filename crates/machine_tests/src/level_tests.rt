@@ -12,7 +12,8 @@ use sequencer::Run;
 use std::process::Abort;
 
 // Clones that run for ever, ten of which the green flag makes; the space key deletes each.
-static CLONES: &str = r#"{"targets":[{"isStage":true,"name":"Stage","costumes":[{"name":"b"}],"blocks":{}},
+static CLONES: &str =
+    r#"{"targets":[{"isStage":true,"name":"Stage","costumes":[{"name":"b"}],"blocks":{}},
 {"isStage":false,"name":"Cat","visible":false,"layerOrder":1,"costumes":[{"name":"c"}],"blocks":{
 "h":{"opcode":"control_start_as_clone","topLevel":true,"next":"f"},
 "f":{"opcode":"control_forever"},
@@ -24,7 +25,8 @@ static CLONES: &str = r#"{"targets":[{"isStage":true,"name":"Stage","costumes":[
 "d":{"opcode":"control_delete_this_clone"}}}]}"#;
 
 // A script that sends the message which starts it again: each time the running thread is detached.
-static AGAIN: &str = r#"{"targets":[{"isStage":true,"name":"Stage","lists":{"l":["l",[]]},"broadcasts":{"a":"a"},"costumes":[{"name":"b"}],"blocks":{}},
+static AGAIN: &str =
+    r#"{"targets":[{"isStage":true,"name":"Stage","lists":{"l":["l",[]]},"broadcasts":{"a":"a"},"costumes":[{"name":"b"}],"blocks":{}},
 {"isStage":false,"name":"Cat","visible":false,"layerOrder":1,"costumes":[{"name":"c"}],"blocks":{
 "h":{"opcode":"event_whenbroadcastreceived","topLevel":true,"fields":{"BROADCAST_OPTION":["a","a"]},"next":"b"},
 "b":{"opcode":"event_broadcast","inputs":{"BROADCAST_INPUT":[1,[11,"a","a"]]},"next":"d"},
@@ -33,7 +35,8 @@ static AGAIN: &str = r#"{"targets":[{"isStage":true,"name":"Stage","lists":{"l":
 "s":{"opcode":"event_broadcast","inputs":{"BROADCAST_INPUT":[1,[11,"a","a"]]}}}}]}"#;
 
 // Two loops under the green flag; the space key stops the other scripts of the sprite, and then waits for ever.
-static OTHERS: &str = r#"{"targets":[{"isStage":true,"name":"Stage","costumes":[{"name":"b"}],"blocks":{}},
+static OTHERS: &str =
+    r#"{"targets":[{"isStage":true,"name":"Stage","costumes":[{"name":"b"}],"blocks":{}},
 {"isStage":false,"name":"Cat","visible":false,"layerOrder":1,"costumes":[{"name":"c"}],"blocks":{
 "g":{"opcode":"event_whenflagclicked","topLevel":true,"next":"f"},
 "f":{"opcode":"control_forever","inputs":{"SUBSTACK":[2,"e"]}},

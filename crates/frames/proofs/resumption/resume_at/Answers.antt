@@ -3,7 +3,7 @@ use Rattle.std.proofs.Common.{sym, ap, ◌∙◌, subst}
 use Rattle.machine_spec.specs.declared.threads.Which.TheVariants.{Slot}
 use Rattle.project_check.specs.Loaded.{sheet_at}
 use Rattle.machine_spec.specs.Places.{at_place}
-use Rattle.thread_frames.specs.Threads.{Bare}
+use Rattle.thread_frames.specs.declared.thread.Thread.{Thread as Bare}
 use Rattle.thread_frames.proofs.Alive.{bare_at}
 use Rattle.thread_moves.specs.Moves.{levels_at}
 use Rattle.thread_moves.specs.Resuming.{IsResumed}

@@ -1,7 +1,7 @@
 -- The thread at the place is the running one.
 use Rattle.std.proofs.Common.{refl, sym, ap, ◌∙◌}
 use Rattle.machine_spec.specs.Places.{at_place}
-use Rattle.thread_frames.specs.Threads.{Bare}
+use Rattle.thread_frames.specs.declared.thread.Thread.{Thread as Bare}
 use Rattle.thread_frames.proofs.Alive.{bare_at}
 use Rattle.executions.proofs.Runs.{runner_is}
 use Rattle.executions.proofs.state.State.runner.Goals as goal
