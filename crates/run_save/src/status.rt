@@ -84,7 +84,7 @@ fn told_line(refusal: &LineRefusal) -> (&'static str, Detail)
 
 // What tells a refused project or saved run: the name of the status, before the rule.
 fn told_rule(name: &'static str, rule: Option<&'static str>) -> (&'static str, Detail)
-    ensures { told_text result.0.now result.1 ≡ text_of_rule name.now (option_map (λ rule. rule.now) rule) }
+    ensures { told_text result.0.now result.1 ≡ text_of_rule name.now (option_map (λ r. r.now) rule.entry) }
 {
     match rule {
         Some(rule) => (name, Detail::Rule(rule)),
