@@ -2,4 +2,6 @@
 #![tactic(auto)]
 
 #[cfg(test)]
+mod digest_sink_tests;
+#[cfg(test)]
 mod sv_channels_tests;

@@ -1,4 +1,4 @@
-//! Tests of lists, slots, numbers, words, values, links and the table of opcodes, by worked rows.
+//! Tests of lists, slots, numbers, words, values, links, the table of opcodes and the made texts, by worked rows.
 #![tactic(auto)]
 
 #[cfg(test)]
@@ -7,6 +7,8 @@ mod instance_index_tests;
 mod link_graph_tests;
 #[cfg(test)]
 mod lists_tests;
+#[cfg(test)]
+mod made_texts_tests;
 #[cfg(test)]
 mod opcode_table_tests;
 #[cfg(test)]

@@ -1,0 +1,2 @@
+pub mod MadeProject
+pub mod MadeScript
