@@ -23,7 +23,8 @@ use Rattle.run_save.specs.declared.status.Status.TheVariants.{Done, Usage, ReadF
 use Rattle.script_play.specs.declared.stops.PlayStop.{PlayStop}
 use Rattle.script_play.specs.declared.stops.PlayStop.TheVariants as stop
 use Rattle.play_command.specs.Calls.{files_of, fetched_at, name_of_save, name_put}
-use Rattle.play_command.specs.Causes.{FileFailed, SavedFailed, project_name, Tells, IsReady, IsFetched, AnswerCause, HoldsNoWant}
+use Rattle.play_command.specs.Causes.{FileFailed, SavedFailed, project_name, Tells, IsReady, IsFetched, AnswerCause}
+use Rattle.run_save.specs.Statuses.{HoldsNoWant}
 use Rattle.play_command.specs.Command.{Command}
 use Rattle.play_command.specs.Outcome.{Ending, unloaded, too_large, not_accepted, not_continued, Outcome}
 use Rattle.play_command.specs.Promise.{course, Promised, Found, IsFound, Owes}

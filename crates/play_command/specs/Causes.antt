@@ -1,11 +1,9 @@
 -- THE CAUSES of each status: how the call ends where nothing fails, and how far it came before something did.
-use Rattle.std.specs.Prelude.{◌≡◌, ◌≢◌, ◌⊎◌, List, ℕ, Bool, true, false, IsSome}
+use Rattle.std.specs.Prelude.{◌≡◌, ◌⊎◌, List, ℕ, Bool, true, false}
 use Rattle.call_outcomes.specs.Faults.{FetchFailed}
 use Rattle.call_outcomes.specs.Seen.{ShelfNow}
 use Rattle.script_words.specs.declared.stops.Stop.TheVariants as stop
-use Rattle.machine_spec.specs.declared.lines.LineRefusal.TheVariants as line_refusal
 use Rattle.machine_spec.specs.Output.{Whole, BadLine, Limited}
-use Rattle.run_save.specs.Statuses.{text_of_refusal, text_of_save_refusal}
 use Rattle.run_save.specs.declared.status.Limit.{Limit as LimitMet}
 use Rattle.run_save.specs.declared.status.Limit.TheVariants as limit
 use Rattle.run_save.specs.declared.status.Which.TheVariants as which
@@ -91,13 +89,6 @@ IsReady (unloaded (not_continued r)) = ⊥
 IsReady ending = Unit {0}
 
 -- The cause of each status
-
--- want of memory stands in no other status
-abbrev pub HoldsNoWant : Status → Type 0
-HoldsNoWant (BadProject r) = IsSome (text_of_refusal r)
-HoldsNoWant (BadSave r) = IsSome (text_of_save_refusal r)
-HoldsNoWant (BadScript r) = r ≢ line_refusal.NoMemory
-HoldsNoWant status = Unit {0}
 
 -- Every other status of words that have a form tells the ending. A read fault is one of the project file's; or the project
 -- was loaded, and it is one of the saved run's; or that was loaded too. Want of memory is the shelf's, or the project file was

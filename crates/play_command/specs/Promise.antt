@@ -23,7 +23,8 @@ use Rattle.project_spec.specs.Basis.{Basis}
 use Rattle.run_save.specs.declared.status.Status.{Status}
 use Rattle.run_save.specs.declared.status.Status.TheVariants.{Done, Usage, ReadFault, WriteFault, BadProject, BadSave, BadScript, Limit, TooLarge, NoMemory}
 use Rattle.play_command.specs.Calls.{files_of, fetched_at, name_of_save, name_put}
-use Rattle.play_command.specs.Causes.{FileFailed, SavedFailed, project_name, Tells, AnswerCause, HoldsNoWant}
+use Rattle.play_command.specs.Causes.{FileFailed, SavedFailed, project_name, Tells, AnswerCause}
+use Rattle.run_save.specs.Statuses.{HoldsNoWant}
 use Rattle.play_command.specs.Command.{Command, play, resume, check, command_of}
 use Rattle.play_command.specs.Outcome.{Loading, Loads, Bases, Checks, OfFile, Continuing, OfSaved, Outcome, outcome_of, resume_outcome, check_outcome}
 use Rattle.play_command.specs.declared.counts.Counts.{Counts}
