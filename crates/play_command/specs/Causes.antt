@@ -9,28 +9,31 @@ use Rattle.run_save.specs.declared.status.Limit.TheVariants as limit
 use Rattle.run_save.specs.declared.status.Which.TheVariants as which
 use Rattle.run_save.specs.declared.status.Status.{Status}
 use Rattle.run_save.specs.declared.status.Status.TheVariants.{Done, Usage, ReadFault, WriteFault, BadProject, BadSave, BadScript, Limit, TooLarge, NoMemory}
-use Rattle.play_command.specs.Command.{Command, play, resume, check}
+use Rattle.play_command.specs.Command.{Command, play, resume, check, made}
 use Rattle.play_command.specs.Outcome.{Ending, unloaded, told, ran, unsaved, missing, too_large, not_accepted, not_continued}
 
 -- Of which files a fetch has failed
 
--- the name of the project file
-abbrev pub project_name : Command → List ℕ
-project_name (play form) = form.project
-project_name (resume form) = form.project
-project_name (check project) = project
+-- a fetch of the project file has failed
+abbrev pub ProjectFailed : ShelfNow → ShelfNow → Command → Type 0
+ProjectFailed s t (play form) = FetchFailed s t form.project
+ProjectFailed s t (resume form) = FetchFailed s t form.project
+ProjectFailed s t (check project) = FetchFailed s t project
+ProjectFailed s t (made form) = ⊥
 
 -- a fetch of a file that the words name has failed in this call
 abbrev pub FileFailed : ShelfNow → ShelfNow → Command → Type 0
 FileFailed s t (play form) = FetchFailed s t form.project ⊎ FetchFailed s t form.script
 FileFailed s t (resume form) = FetchFailed s t form.project ⊎ (FetchFailed s t form.saved ⊎ FetchFailed s t form.script)
 FileFailed s t (check project) = FetchFailed s t project
+FileFailed s t (made form) = ⊥
 
 -- a fetch of the saved run has failed
 abbrev pub SavedFailed : ShelfNow → ShelfNow → Command → Type 0
 SavedFailed s t (play form) = ⊥
 SavedFailed s t (resume form) = FetchFailed s t form.saved
 SavedFailed s t (check project) = ⊥
+SavedFailed s t (made form) = ⊥
 
 -- What a status tells
 

@@ -1,5 +1,5 @@
 -- The command's words.
-use Rattle.std.specs.Prelude.{ℕ, ◌-◌, ◌^◌, List, [], ◌∷◌, Option, None, Some, bytes_eq, codes, option_map, if◌then◌else◌}
+use Rattle.std.specs.Prelude.{ℕ, suc, ◌-◌, ◌^◌, List, [], ◌∷◌, Option, None, Some, bytes_eq, codes, option_map, if◌then◌else◌}
 use Rattle.play_command.specs.WholeNumbers.{whole_up_to}
 use Rattle.play_command.specs.declared.command.Command.{Command as CommandOfWords}
 use Rattle.play_command.specs.declared.command.Command.TheVariants as words
@@ -18,11 +18,18 @@ pub record ResumeForm : Type 0 where
   pub script : List ℕ
   pub save : Option (List ℕ)
 
--- what the words ask for: to play a project, to go on with a saved run of one, or to check the project in a file
+-- the numbers in `made N FRAMES`: how many copies of its sprite the made project has, and how many frames the made script
+pub record MadeForm : Type 0 where
+  pub copies : ℕ
+  pub frames : ℕ
+
+-- what the words ask for: to play a project, to go on with a saved run of one, to check the project in a file, or to play the
+-- made project
 pub data Command : Type 0 where
   play : Form → Command
   resume : ResumeForm → Command
   check : (project : List ℕ) → Command
+  made : MadeForm → Command
 
 -- the name under which the run is saved, unless it is `-`
 abbrev pub name_to_save : List ℕ → Option (List ℕ)
@@ -44,9 +51,15 @@ run_by command project second third save =
 abbrev pub check_by : List ℕ → List ℕ → Option Command
 check_by command project = if bytes_eq command (codes "check") then Some (check project) else None
 
--- the command of the words, without the program's name
+-- `made N FRAMES`; each number is read as a seed is, and is not 0
+abbrev pub made_by : List ℕ → Option ℕ → Option ℕ → Option Command
+made_by command (Some (suc n)) (Some (suc k)) = if bytes_eq command (codes "made") then Some (made (record { copies = suc n; frames = suc k })) else None
+made_by command copies frames = None
+
+-- the command of the words, without the program's name; up to 500 copies and 1,000 frames are made
 abbrev pub command_of : List (List ℕ) → Option Command
 command_of (command ∷ project ∷ second ∷ third ∷ save ∷ []) = run_by command project second third save
+command_of (command ∷ copies ∷ frames ∷ []) = made_by command (whole_up_to 500 copies) (whole_up_to 1000 frames)
 command_of (command ∷ project ∷ []) = check_by command project
 command_of words = None
 
@@ -55,3 +68,4 @@ abbrev pub command_view : CommandOfWords → Command
 command_view (words.Play project script seed save) = play (record { project = project.now; script = script.now; seed = seed; save = option_map (λ name. name.now) save })
 command_view (words.Resume project saved script save) = resume (record { project = project.now; saved = saved.now; script = script.now; save = option_map (λ name. name.now) save })
 command_view (words.Check project) = check project.now
+command_view (words.Made copies frames) = made (record { copies = copies; frames = frames })

@@ -1,6 +1,7 @@
 pub mod WholeNumbers
 pub mod Command
 pub mod Outcome
+pub mod Made
 pub mod Causes
 pub mod Calls
 pub mod Resuming
@@ -8,3 +9,4 @@ pub mod Promise
 pub mod Laws
 pub mod Stages
 pub mod Saving
+pub mod Making

@@ -1,5 +1,5 @@
--- THE PROMISE OF `play`, `resume` AND `check`, in words that the files beside this one define: Command reads the words, Outcome is
--- what the call does where nothing fails, Causes tells why a status comes, Calls what is counted, and Resuming what becomes of a
+-- THE PROMISE OF `play`, `resume`, `check` AND `made`, in words that the files beside this one define: Command reads the words,
+-- Outcome is what the call does where nothing fails, Made the same for `made`, Causes tells why a status comes, Calls what is counted, and Resuming what becomes of a
 -- saved run. What is owed about faults, writes and puts stands in call_outcomes/specs, over the course of a status.
 --
 -- The words `play p.json s.txt 1 r.json`, over a shelf that holds a project and a script of two frame lines under these names, write
@@ -13,20 +13,22 @@ use Rattle.std.specs.FinMap.{get}
 use Rattle.sv_channels.specs.Files.{Files}
 use Rattle.call_outcomes.specs.Calls.{Calls as CallsMade, puts_of}
 use Rattle.call_outcomes.specs.Course.{Course, usage, read_fault, write_fault, no_memory, silent, whole}
-use Rattle.call_outcomes.specs.Faults.{FaultCause, FetchFailed, PutFailed, WriteFailed, Wanted, HidesNothing}
+use Rattle.call_outcomes.specs.Faults.{FaultCause, PutFailed, WriteFailed, Wanted, HidesNothing}
 use Rattle.call_outcomes.specs.Idle.{IsIdle}
 use Rattle.call_outcomes.specs.Seen.{ShelfNow, SinkNow}
 use Rattle.call_outcomes.specs.Shelving.{Shelved, IsShelved}
 use Rattle.call_outcomes.specs.Writes.{Wrote, IsSilent}
 use Rattle.machine_spec.specs.Program.{Program}
+use Rattle.made_texts.specs.MadeProject.{made_project}
 use Rattle.project_spec.specs.Basis.{Basis}
 use Rattle.run_save.specs.declared.status.Status.{Status}
 use Rattle.run_save.specs.declared.status.Status.TheVariants.{Done, Usage, ReadFault, WriteFault, BadProject, BadSave, BadScript, Limit, TooLarge, NoMemory}
 use Rattle.play_command.specs.Calls.{files_of, fetched_at, name_of_save, name_put}
-use Rattle.play_command.specs.Causes.{FileFailed, SavedFailed, project_name, Tells, AnswerCause}
+use Rattle.play_command.specs.Causes.{FileFailed, ProjectFailed, SavedFailed, Tells, AnswerCause}
 use Rattle.run_save.specs.Statuses.{HoldsNoWant}
-use Rattle.play_command.specs.Command.{Command, play, resume, check, command_of}
+use Rattle.play_command.specs.Command.{Command, play, resume, check, made, command_of}
 use Rattle.play_command.specs.Outcome.{Loading, Loads, Bases, Checks, OfFile, Continuing, OfSaved, Outcome, outcome_of, resume_outcome, check_outcome}
+use Rattle.play_command.specs.Made.{made_outcome}
 use Rattle.play_command.specs.declared.counts.Counts.{Counts}
 
 -- the course of a status: before a refused line all is written, and at a limit its line too
@@ -42,7 +44,8 @@ course ReadFault = read_fault
 course WriteFault = write_fault
 course NoMemory = no_memory
 
--- 1. Of which outcomes a clause speaks: what the shelf holds is told, and the files stand for what is loaded
+-- 1. Of which outcomes a clause speaks: what the shelf holds is told, and the files stand for what is loaded; the made project is
+-- made by the call itself, whatever the shelf holds
 
 -- of each outcome of the files that are held
 abbrev pub Promised : Option Files → Command → (Outcome → Type 0) → Type 0
@@ -53,6 +56,7 @@ Promised held (resume form) fact =
     → (continuing : Continuing) → OfSaved (get files form.project) loading (get files form.saved) continuing → fact (resume_outcome files form loading continuing))
 Promised held (check project) fact =
     IfSome held (λ files. (loading : Loading Counts) → OfFile Checks (get files project) loading → fact (check_outcome files project loading))
+Promised held (made form) fact = (loading : Loading Basis) → Bases (made_project form.copies) loading → fact (made_outcome form loading)
 
 -- and of one that there is
 abbrev pub Found : Option Files → Command → (Outcome → Type 0) → Type 0
@@ -63,6 +67,7 @@ Found held (resume form) fact =
     × ((continuing : Continuing) × OfSaved (get files form.project) loading (get files form.saved) continuing × fact (resume_outcome files form loading continuing)))
 Found held (check project) fact =
     IfSome held (λ files. (loading : Loading Counts) × OfFile Checks (get files project) loading × fact (check_outcome files project loading))
+Found held (made form) fact = (loading : Loading Basis) × Bases (made_project form.copies) loading × fact (made_outcome form loading)
 
 -- where a status tells how the outcome ends, there is an outcome that ends so
 abbrev pub IsFound : Option Files → Command → Status → Type 0
@@ -86,7 +91,7 @@ pub record Owes (command : Command) (s t : ShelfNow) (k l : SinkNow) (status : S
   pub pure : HoldsNoWant status
   -- every other status exactly where the outcome ends so; a read fault, a write fault and want of memory no later in the order of
   -- work than they may come
-  pub exact : Promised s.held command (λ o. AnswerCause (FetchFailed s t (project_name command)) (SavedFailed s t command) (Wanted s t) o.ending status)
+  pub exact : Promised s.held command (λ o. AnswerCause (ProjectFailed s t command) (SavedFailed s t command) (Wanted s t) o.ending status)
   -- there is such an outcome
   pub found : IsFound s.held command status
   -- where nothing failed, the status tells the outcome's ending, or memory ran out

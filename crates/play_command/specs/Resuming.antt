@@ -12,7 +12,7 @@ use Rattle.saved_spec.specs.Refusals.{IsAccepted as IsSavedRun}
 use Rattle.saved_spec.specs.RunShapes.{Told}
 use Rattle.run_save.specs.declared.status.Status.{Status}
 use Rattle.run_save.specs.declared.status.Status.TheVariants.{Done}
-use Rattle.play_command.specs.Command.{Command, play, resume, check}
+use Rattle.play_command.specs.Command.{Command, play, resume, check, made}
 use Rattle.play_command.specs.Outcome.{accepted, continued, Bases, Continues, Outcome, ran, outcome_of, resume_outcome}
 
 -- the text is a saved run of the project file, under this seed, and tells this world, but for its redraw request, which
@@ -37,6 +37,7 @@ IsSavedAgain held (resume form) =
     → get files form.saved ≡ Some bytes → Continues b project bytes (continued t)
     → SavesAgain b project t.run.seed (resume_outcome files form (accepted b) (continued t)))
 IsSavedAgain held (check project) = Unit {0}
+IsSavedAgain held (made form) = Unit {0}
 
 -- so it is after Done
 abbrev pub Resumable : Option Files → Command → Status → Type 0

@@ -1,7 +1,7 @@
 //! What the command's words ask for.
 
 ghost use Rattle.std.specs.Prelude.{◌≡◌, ◌^◌, ◌-◌, map, string_bytes, option_map};
-ghost use Rattle.play_command.specs.Command.{check_by, play_by, run_by, command_of, command_view, name_to_save};
+ghost use Rattle.play_command.specs.Command.{check_by, made_by, play_by, run_by, command_of, command_view, name_to_save};
 ghost use Rattle.play_command.specs.WholeNumbers.{whole_up_to};
 
 use crate::whole_numbers::whole_up_to;
@@ -27,6 +27,11 @@ pub enum Command<'a> {
     Check {
         project: &'a str,
     },
+    /// `made N FRAMES`: N copies, from 1 to 500, and from 1 to 1,000 frames.
+    Made {
+        copies: u32,
+        frames: u32,
+    },
 }
 
 /// The command of the words, or `None` where they have no form.
@@ -35,6 +40,7 @@ pub fn command_of(words: &[String]) -> Option<Command<'_>>
 {
     match words {
         [command, project] => checking(command.as_str(), project.as_str()),
+        [command, copies, frames] => { making(command.as_str(), copies.as_str(), frames.as_str()) }
         [command, project, second, third, save] => {
             running(
                 command.as_str(),
@@ -104,6 +110,24 @@ fn checking<'a>(command: &str, project: &'a str) -> Option<Command<'a>>
 {
     if command == "check" {
         Some(Command::Check { project })
+    } else {
+        None
+    }
+}
+
+fn making<'a>(command: &str, copies: &str, frames: &str) -> Option<Command<'a>>
+    ensures { option_map command_view result ≡ made_by command.now (whole_up_to 500 copies.now) (whole_up_to 1000 frames.now) }
+{
+    let copies = whole_up_to(copies, 500)?;
+    let frames = whole_up_to(frames, 1000)?;
+    if copies == 0 || frames == 0 {
+        return None;
+    }
+    if command == "made" {
+        Some(Command::Made {
+            copies: copies as u32,
+            frames: frames as u32,
+        })
     } else {
         None
     }

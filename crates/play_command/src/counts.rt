@@ -14,8 +14,8 @@ pub struct Counts {
     pub blocks: u32,
 }
 
-// Appends a number from 0.
-fn push_natural(out: &mut Vec<u8>, number: u32) -> Result<(), AllocError>
+// Appends a number from 0. The only error is want of memory.
+pub(crate) fn push_natural(out: &mut Vec<u8>, number: u32) -> Result<(), AllocError>
     ensures { OnOk result (out.new.items ≡ out.old.items ++ decimal number) }
 {
     let mut buffer = Buffer::new();

@@ -1,4 +1,4 @@
-//! The commands `play`, `resume` and `check`: the same bytes for the same files, on every machine. specs/Promise.antt says what is
+//! The commands `play`, `resume`, `check` and `made`: the same bytes for the same files, on every machine. specs/Promise.antt says what is
 //! promised.
 #![tactic(auto)]
 
@@ -6,6 +6,7 @@ mod command;
 mod counts;
 mod endings;
 mod laws;
+mod made;
 mod playback;
 mod top;
 mod whole_numbers;

@@ -21,6 +21,7 @@ use crate::command::{Command, command_of};
 use crate::counts::{Counts, accepted_line};
 use crate::endings::{played, refused, rejected, unfetched};
 use crate::laws::two_parts_of_a_script_are_the_whole;
+use crate::made::make;
 use crate::playback::{Saving, play_first, play_on, runs_are_told_again, saving_of};
 use call_outcomes::fetch;
 use machine_spec::SCRIPT_LIMIT;
@@ -158,15 +159,17 @@ fn check<H: Shelf, K: Sink>(alloc: Global, project: &str, shelf: &mut H, out: &m
     played(tell_counts(alloc, counts_of(&project), out))
 }
 
-/// Plays a project, `play PROJECT SCRIPT SEED SAVE`, goes on with a saved run of one, `resume PROJECT SAVED SCRIPT SAVE`, or
-/// checks one, `check PROJECT`: the command's words without the program's name.
+/// Plays a project, `play PROJECT SCRIPT SEED SAVE`, goes on with a saved run of one, `resume PROJECT SAVED SCRIPT SAVE`,
+/// checks one, `check PROJECT`, or plays one that it makes itself, `made N FRAMES`: the command's words without the program's
+/// name.
 ///
 /// To play, the project and the script are fetched from the shelf, and each frame line of the script writes one frame
 /// text by one write; a limit that a line reaches writes its own line and ends the run. A run that was played to the end of
 /// its script is saved: the text of the saved run (docs/formats.md, section 5) is put under SAVE, unless that is `-`; one
 /// that is longer than 128 MiB writes the line of this limit instead. To check, the project is fetched, and where it is
-/// accepted, the line `accepted T B` with its numbers of targets and blocks is written by one write. specs/Promise.antt says
-/// what the clauses mean. After a fault no further call is made on the shelf or the sink.
+/// accepted, the line `accepted T B` with its numbers of targets and blocks is written by one write. With `made` nothing is
+/// fetched: the made project and script (the crate `made_texts`) are played, and in place of the frame texts two lines, by one
+/// write, tell the number and the SHA-256 digest of their bytes. specs/Promise.antt says what the clauses mean. After a fault no further call is made on the shelf or the sink.
 pub fn play<H: Shelf, K: Sink>(
     alloc: Global,
     words: &[String],
@@ -208,5 +211,6 @@ pub fn play<H: Shelf, K: Sink>(
             },
         ) => resume(alloc, project, saved, script, save, shelf, out),
         Some(Command::Check { project }) => check(alloc, project, shelf, out),
+        Some(Command::Made { copies, frames }) => make(alloc, copies, frames, out),
     }
 }
