@@ -63,7 +63,7 @@ check_unfetched project s t k e h =
 
 pub check_refused : (project bytes : List ℕ) (s t : ShelfNow) (k : SinkNow) (r : Refusal) → Reached 1 s t → IsFetchedFile s.held project project_limit bytes → LoadsProject bytes (Err r) → Completes (check project) s t k k (refused_by r (project_rule r))
 check_refused project bytes s t k r reached file h =
-    completes_refused (check project) s t k r (project_rule r) reached (omega arith) refl
+    completes_refused (check project) 1 s t k r (project_rule r) reached (omega arith) refl refl
     (λ some. record {
       all = read_all Checks (λ files b. told_counts) (λ o. o.ending ≡ unloaded (not_accepted r)) s.held project bytes (refused r) (check_reading bytes) file (load_cause bytes r h some) (everywhere s.held refl);
       some = read_one Checks (λ files b. told_counts) (λ o. o.ending ≡ unloaded (not_accepted r)) s.held project bytes (refused r) file (load_cause bytes r h some) (everywhere s.held refl);
@@ -100,7 +100,7 @@ play_unfetched form s t k e h =
 
 pub play_refused : (form : Form) (bytes : List ℕ) (s t : ShelfNow) (k : SinkNow) (r : Refusal) → Reached 1 s t → IsFetchedFile s.held form.project project_limit bytes → LoadsProject bytes (Err r) → Completes (play form) s t k k (refused_by r (project_rule r))
 play_refused form bytes s t k r reached file h =
-    completes_refused (play form) s t k r (project_rule r) reached (omega arith) refl
+    completes_refused (play form) 1 s t k r (project_rule r) reached (omega arith) refl refl
     (λ some. record {
       all = read_all Loads (after_load form) (λ o. o.ending ≡ unloaded (not_accepted r)) s.held form.project bytes (refused r) (project_reading bytes) file (load_cause bytes r h some) (everywhere s.held refl);
       some = read_one Loads (after_load form) (λ o. o.ending ≡ unloaded (not_accepted r)) s.held form.project bytes (refused r) file (load_cause bytes r h some) (everywhere s.held refl);
@@ -150,7 +150,7 @@ resume_unfetched form s t k e h =
 
 pub resume_unloaded : (form : ResumeForm) (bytes : List ℕ) (s t : ShelfNow) (k : SinkNow) (r : Refusal) → Reached 1 s t → IsFetchedFile s.held form.project project_limit bytes → LoadsProject bytes (Err r) → Completes (resume form) s t k k (refused_by r (project_rule r))
 resume_unloaded form bytes s t k r reached file h =
-    completes_refused (resume form) s t k r (project_rule r) reached (omega arith) refl
+    completes_refused (resume form) 1 s t k r (project_rule r) reached (omega arith) refl refl
     (λ some. resume_refused (λ o. o.ending ≡ unloaded (not_accepted r)) s.held form bytes r file (load_cause bytes r h some) refl)
     (resume_loading (λ o. IsFetched o.ending) s.held form bytes file
     (λ files loading continuing. loading_fetched loading (after_basis form files bytes continuing) (λ b. is_fetched _ (basis_loaded form files bytes continuing b))))

@@ -6,7 +6,7 @@ use Rattle.sv_channels.specs.Files.{Files}
 use Rattle.sv_channels.specs.Shelf.{IsHeldAbove}
 use Rattle.project_spec.specs.declared.refusals.Refusal.TheVariants as refusal
 use Rattle.run_save.specs.declared.status.Which.TheVariants as which
-use Rattle.play_command.specs.Command.{Command, play, resume, check}
+use Rattle.play_command.specs.Command.{Command, play, resume, check, made}
 use Rattle.project_spec.specs.Limits.{project_limit}
 use Rattle.play_command.specs.Outcome.{Loading, refused, OfFile, too_large, Outcome, ends, fetched, loaded}
 use Rattle.play_command.specs.Promise.{Promised, Found}
@@ -25,6 +25,8 @@ promised_map None (check project) P Q k h = tt
 promised_map (Some files) (play form) P Q k h = λ loading l. k _ (h loading l)
 promised_map (Some files) (resume form) P Q k h = λ loading l continuing c. k _ (h loading l continuing c)
 promised_map (Some files) (check project) P Q k h = λ loading l. k _ (h loading l)
+promised_map None (made form) P Q k h = λ loading l. k _ (h loading l)
+promised_map (Some files) (made form) P Q k h = λ loading l. k _ (h loading l)
 
 pub found_map : (held : Option Files) (command : Command) (P Q : Outcome → Type 0) → ((o : Outcome) → P o → Q o) → Found held command P → Found held command Q
 found_map None (play form) P Q k h = tt
@@ -33,6 +35,8 @@ found_map None (check project) P Q k h = tt
 found_map (Some files) (play form) P Q k h = (h.0, h.1, k _ h.2)
 found_map (Some files) (resume form) P Q k h = (h.0, h.1, (h.2.0, h.2.1, k _ h.2.2))
 found_map (Some files) (check project) P Q k h = (h.0, h.1, k _ h.2)
+found_map None (made form) P Q k h = (h.0, h.1, k _ h.2)
+found_map (Some files) (made form) P Q k h = (h.0, h.1, k _ h.2)
 
 -- a fact of every outcome
 pub always : (held : Option Files) (command : Command) (P : Outcome → Type 0) → ((o : Outcome) → P o) → Promised held command P
@@ -42,6 +46,8 @@ always None (check project) P k = tt
 always (Some files) (play form) P k = λ loading l. k _
 always (Some files) (resume form) P k = λ loading l continuing c. k _
 always (Some files) (check project) P k = λ loading l. k _
+always None (made form) P k = λ loading l. k _
+always (Some files) (made form) P k = λ loading l. k _
 
 -- Of the commands that read a project and no saved run
 

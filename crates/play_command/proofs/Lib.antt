@@ -10,3 +10,5 @@ pub mod Owed
 pub mod ThreeCalls
 pub mod Again
 pub mod Calls
+pub mod Frames
+pub mod MadeCalls

@@ -23,7 +23,7 @@ use Rattle.run_save.specs.declared.status.Status.TheVariants.{Done, Usage, ReadF
 use Rattle.script_play.specs.declared.stops.PlayStop.{PlayStop}
 use Rattle.script_play.specs.declared.stops.PlayStop.TheVariants as stop
 use Rattle.play_command.specs.Calls.{files_of, fetched_at, name_of_save, name_put}
-use Rattle.play_command.specs.Causes.{FileFailed, SavedFailed, project_name, Tells, IsReady, IsFetched, AnswerCause}
+use Rattle.play_command.specs.Causes.{FileFailed, ProjectFailed, SavedFailed, Tells, IsReady, IsFetched, AnswerCause}
 use Rattle.run_save.specs.Statuses.{HoldsNoWant}
 use Rattle.play_command.specs.Command.{Command}
 use Rattle.play_command.specs.Outcome.{Ending, unloaded, too_large, not_accepted, not_continued, Outcome}
@@ -37,7 +37,7 @@ use Rattle.play_command.proofs.Files.{Both, promised_map, found_map}
 
 -- the cause of a status, by an outcome
 abbrev pub Cause : Command → (s t : ShelfNow) → Status → Outcome → Type 0
-Cause command s t status o = AnswerCause (FetchFailed s t (project_name command)) (SavedFailed s t command) (Wanted s t) o.ending status
+Cause command s t status o = AnswerCause (ProjectFailed s t command) (SavedFailed s t command) (Wanted s t) o.ending status
 
 -- what is owed by an outcome
 pub record Answers (command : Command) (s t : ShelfNow) (k l : SinkNow) (status : Status) (o : Outcome) : Type 0 where
@@ -178,15 +178,15 @@ completes_unfetched command file n name limit s m t k fetch.NoMemory r h f few a
 
 -- A file is refused
 
-pub completes_refused : (command : Command) (s t : ShelfNow) (k : SinkNow) (r : Refusal) (text : Option (List ℕ)) → Reached 1 s t → 1 ≤ files_of command → text ≡ project_rule r
+pub completes_refused : (command : Command) (n : ℕ) (s t : ShelfNow) (k : SinkNow) (r : Refusal) (text : Option (List ℕ)) → Reached n s t → n ≤ files_of command → n ≡ fetched_at command (BadProject r) → text ≡ project_rule r
     → (IsSome (project_rule r) → Both s.held command (λ o. o.ending ≡ unloaded (not_accepted r))) → Promised s.held command (λ o. IsFetched o.ending) → Completes command s t k k (refused_by r text)
-completes_refused command s t k r None reached few e both fetched =
-    early command s t k NoMemory tt reached.held (costs_wanting command (name_of_save command) 1 (files_of command) s t k reached few) tt
+completes_refused command n s t k r None reached few at e both fetched =
+    early command s t k NoMemory tt reached.held (costs_wanting command (name_of_save command) n (files_of command) s t k reached few) tt
     (promised_map s.held command (λ o. IsFetched o.ending) (Cause command s t NoMemory) (λ o h. inr h) fetched) tt
-completes_refused command s t k r (Some x) reached few e both fetched =
+completes_refused command n s t k r (Some x) reached few at e both fetched =
     let some : IsSome (project_rule r) = subst (λ o. IsSome o) e refl in
     let found = both some in
-    early command s t k (BadProject r) tt reached.held (costs_silent command (name_of_save command) 1 1 s t k reached refl) some found.all found.some
+    early command s t k (BadProject r) tt reached.held (costs_silent command (name_of_save command) n (fetched_at command (BadProject r)) s t k reached at) some found.all found.some
 
 pub completes_rejected : (command : Command) (s t : ShelfNow) (k : SinkNow) (r : SaveRefusal) (text : Option (List ℕ)) → Reached 2 s t → 2 ≤ files_of command → text ≡ saved_rule r
     → (IsSome (saved_rule r) → Both s.held command (λ o. o.ending ≡ unloaded (not_continued r))) → Promised s.held command (λ o. IsFetched o.ending) → Completes command s t k k (rejected_by r text)

@@ -218,13 +218,13 @@ plain_all : (save : Option (List ℕ)) (text : World Task → List ℕ) (run : O
 plain_all None text run h = refl
 plain_all (Some name) text run h = plain_ending text run.writes run.ending h
 
-ends_by : (ending : RunEnding) (l : LimitMet) → EndsBy ending l → ran ending ≡ ending_at l
+pub ends_by : (ending : RunEnding) (l : LimitMet) → EndsBy ending l → ran ending ≡ ending_at l
 ends_by ending limit.Stack h = ap ran h
 ends_by ending (limit.Text n) h = ap ran h
 ends_by ending (limit.Counter which) h = ap ran h
 ends_by ending (limit.Save n) h = absurd h
 
-limit_not_whole : (ending : RunEnding) (l : LimitMet) → ran ending ≡ ending_at l → is_whole (ran ending) ≡ false
+pub limit_not_whole : (ending : RunEnding) (l : LimitMet) → ran ending ≡ ending_at l → is_whole (ran ending) ≡ false
 limit_not_whole ending limit.Stack h = ap is_whole h
 limit_not_whole ending (limit.Text n) h = ap is_whole h
 limit_not_whole ending (limit.Counter which) h = ap is_whole h
