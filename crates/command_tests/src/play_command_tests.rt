@@ -304,11 +304,12 @@ fn an_empty_script_and_an_unknown_line(rt: HostRuntime) {
 fn a_write_that_fails(rt: HostRuntime) {
     let frame = frame_at(&rt, 1, 0, "0");
     let cut = format!(in rt.alloc(); "{}frame", frame.as_str()).expect(&rt, "memory");
-    let rows: [(&str, u64, u64, &[u8]); 4] = [
+    let rows: [(&str, u64, u64, &[u8]); 5] = [
         ("play p s 1 -", 0, 0, b""),
         ("play p s 1 -", 1, 5, cut.as_bytes()),
         ("check p", 0, 0, b""),
         ("check p", 0, 8, b"accepted"),
+        ("made 1 1", 0, 4, b"made"),
     ];
     for (words, failing, kept, written) in rows {
         let answer = unwritten(&rt, words, failing, kept);
@@ -430,7 +431,7 @@ fn lines_that_are_refused(rt: HostRuntime) {
     }
 }
 
-static NO_FORMS: [&str; 16] = [
+static NO_FORMS: [&str; 25] = [
     "",
     "play",
     "play p s 1",
@@ -447,6 +448,15 @@ static NO_FORMS: [&str; 16] = [
     "check p -",
     "Check p",
     "check p s",
+    "made",
+    "made 1",
+    "made 1 1 1",
+    "Made 1 1",
+    "made 0 1",
+    "made 1 0",
+    "made 01 1",
+    "made 501 1",
+    "made 1 1001",
 ];
 
 #[test]
@@ -503,5 +513,70 @@ fn a_thousand_frames_and_flags(rt: HostRuntime) {
             .expect(&rt, "memory");
     }
     let answer = answered(&rt, "play p s 1 -", base.as_bytes(), script.as_bytes());
+    is_told(&rt, &answer, "Done", 0, expected.as_bytes());
+}
+
+#[test]
+fn made_projects(rt: HostRuntime) {
+    let rows = [
+        (
+            "made 1 1",
+            "made 1 1 blocks 7 n 11\nframes 119 891592f4cc8685d47f9dc17e0629adddaebaaa75d05af308ec1af9fb88d7a938\n",
+        ),
+        (
+            "made 2 3",
+            "made 2 3 blocks 12 n 96\nframes 542 4d0ba4ac155c842952d6512a7296c8993d617b46ced2c5d44586d5d24e99f1a9\n",
+        ),
+        (
+            "made 100 50",
+            "made 100 50 blocks 502 n 2530000\nframes 317485 5c273f205c9d136e7e0cc73fdab03e46ea06e85c0300c3c72d42e3c8f2b26db2\n",
+        ),
+    ];
+    for (words, written) in rows {
+        // Nothing is fetched, so a shelf whose first call fails is as good.
+        let answer = unfetched(&rt, words, 0);
+        is_told(&rt, &answer, "Done", 0, written.as_bytes());
+    }
+}
+
+// When the flag is clicked: forever: broadcast a. Behind it come 100,000 scripts of another message, each of its head alone.
+fn many_heads(rt: &(impl Abort + AllocGlobal)) -> String {
+    let mut blocks = String::from_str(
+        rt.alloc(),
+        "{\"a1\":{\"opcode\":\"event_whenflagclicked\",\"next\":\"a2\",\"topLevel\":true},\"a2\":{\"opcode\":\"control_forever\",\"inputs\":{\"SUBSTACK\":[2,\"a3\"]}},\"a3\":{\"opcode\":\"event_broadcast\",\"inputs\":{\"BROADCAST_INPUT\":[1,[11,\"a\",\"m\"]]}}",
+    )
+    .expect(rt, "memory");
+    for number in 0..100_000u32 {
+        let id = format!(in rt.alloc(); ",\"h{number}\"").expect(rt, "memory");
+        blocks.push_str(id.as_str()).expect(rt, "memory");
+        blocks
+            .push_str(
+                ":{\"opcode\":\"event_whenbroadcastreceived\",\"fields\":{\"BROADCAST_OPTION\":[\"b\",\"q\"]},\"topLevel\":true}",
+            )
+            .expect(rt, "memory");
+    }
+    blocks.push_str("}").expect(rt, "memory");
+    blocks
+}
+
+#[test]
+fn many_heads_that_no_message_starts(rt: HostRuntime) {
+    let alloc = rt.alloc();
+    let shown = project(&rt, "{}", many_heads(&rt).as_str());
+    let hidden = shown
+        .replace(alloc, "\"visible\":true,\"x\"", "\"visible\":false,\"x\"")
+        .expect(&rt, "memory");
+    let mut script = String::from_str(alloc, "flag\n").expect(&rt, "memory");
+    let mut expected = String::new(alloc);
+    for number in 1..101u32 {
+        script
+            .push_str("frame 0 10000 0\n")
+            .expect(&rt, "memory");
+        let frame = frame_at(&rt, number, 0, "0")
+            .replace(alloc, "shown", "hidden")
+            .expect(&rt, "memory");
+        expected.push_str(frame.as_str()).expect(&rt, "memory");
+    }
+    let answer = answered(&rt, "play p s 1 -", hidden.as_bytes(), script.as_bytes());
     is_told(&rt, &answer, "Done", 0, expected.as_bytes());
 }
