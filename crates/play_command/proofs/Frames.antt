@@ -62,7 +62,7 @@ few_texts p n last w (bytes ∷ lines) =
 -- a count of few calls
 
 pub counted_few : (n count : ℕ) → n + count ≤ 2 ^ 64 - 1 → counted n count ≡ n + count
-counted_few zero count h = refl
+counted_few zero count h = let none : count ≡ 0 + count = omega arith in none
 counted_few (suc n) count h =
     let next : next_count count ≡ suc count = omega (arith, h) in
     let more : n + suc count ≡ suc n + count = omega arith in

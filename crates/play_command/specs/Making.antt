@@ -12,11 +12,11 @@ use Rattle.script_play.specs.declared.stops.PlayStop.TheVariants.{BadScript, Lim
 use Rattle.play_command.specs.Made.{made_value}
 use Rattle.play_command.specs.declared.made.Telling.{Telling}
 
--- the text of the variable, and of the bytes of the frames their number and their digest
-pub record Tells (value frames : List ℕ) (t : Telling) : Type 0 where
-  pub value : t.value ≡ value
-  pub length : t.length ≡ length frames
-  pub digest : t.digest ≡ sha256 frames
+-- this text of the variable, and of these bytes of the frames their number and their digest
+pub record Tells (text bytes : List ℕ) (t : Telling) : Type 0 where
+  pub value : t.value ≡ text
+  pub length : t.length ≡ length bytes
+  pub digest : t.digest ≡ sha256 bytes
 
 -- A script with this output was played to its end, and the last world and all its frames are told; or it ends at a refused line
 -- or a limit. No write fails.
