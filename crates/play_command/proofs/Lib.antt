@@ -10,5 +10,6 @@ pub mod Owed
 pub mod ThreeCalls
 pub mod Again
 pub mod Calls
+pub mod Forms
 pub mod Frames
 pub mod MadeCalls
