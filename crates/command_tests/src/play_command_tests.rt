@@ -569,9 +569,7 @@ fn many_heads_that_no_message_starts(rt: HostRuntime) {
     let mut script = String::from_str(alloc, "flag\n").expect(&rt, "memory");
     let mut expected = String::new(alloc);
     for number in 1..101u32 {
-        script
-            .push_str("frame 0 10000 0\n")
-            .expect(&rt, "memory");
+        script.push_str("frame 0 10000 0\n").expect(&rt, "memory");
         let frame = frame_at(&rt, number, 0, "0")
             .replace(alloc, "shown", "hidden")
             .expect(&rt, "memory");

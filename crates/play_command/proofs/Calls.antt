@@ -9,7 +9,6 @@ use Rattle.sv_channels.specs.declared.errors.FetchError.{FetchError}
 use Rattle.call_outcomes.specs.Seen.{ShelfNow, SinkNow}
 use Rattle.call_outcomes.specs.Stages.{Fetches, Writes}
 use Rattle.project_check.specs.Loaded.{Loads as LoadsProject}
-use Rattle.project_check.specs.declared.project.Project.{Project}
 use Rattle.project_spec.specs.declared.refusals.Refusal.{Refusal}
 use Rattle.machine_spec.specs.Program.{Program}
 use Rattle.project_spec.specs.Basis.{Basis}

@@ -1,5 +1,5 @@
 -- How many texts a script writes: one a line at most, so a count of their writes does not stand still.
-use Rattle.std.proofs.Common.{◌≡◌, ℕ, zero, suc, ◌+◌, ◌-◌, ◌^◌, ◌<◌, ◌≤◌, min, Bool, true, false, cond, eqb, List, [], ◌∷◌, ◌++◌, length, refl, sym, ap, ◌∙◌, arith, length-append}
+use Rattle.std.proofs.Common.{◌≡◌, ℕ, zero, suc, ◌+◌, ◌-◌, ◌^◌, ◌<◌, ◌≤◌, Bool, true, false, cond, eqb, List, [], ◌∷◌, length, ap, ◌∙◌, arith, length-append}
 use Rattle.sv_channels.specs.Counts.{next_count}
 use Rattle.call_outcomes.specs.Calls.{counted}
 use Rattle.machine_spec.specs.declared.lines.Line.{Line}

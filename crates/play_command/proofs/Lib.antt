@@ -13,3 +13,4 @@ pub mod Calls
 pub mod Forms
 pub mod Frames
 pub mod MadeCalls
+pub mod MadeLength

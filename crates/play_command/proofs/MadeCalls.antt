@@ -1,6 +1,6 @@
 -- The ends of the words `made`.
-use Rattle.std.proofs.Common.{◌≡◌, ℕ, ◌+◌, ◌<◌, ◌^◌, ◌-◌, Bool, true, false, List, [], ◌∷◌, ◌++◌, fold, map, length, Option, None, Some, Result, Ok, Err, refl, sym, ap, ◌∙◌, subst, ⊎_elim, arith}
-use Rattle.std.specs.Prelude.{sum, IsSome}
+use Rattle.std.proofs.Common.{◌≡◌, ℕ, ◌+◌, ◌<◌, ◌^◌, ◌-◌, false, List, [], ◌∷◌, ◌++◌, fold, map, length, Option, None, Some, Result, Ok, Err, refl, sym, ap, ◌∙◌, subst, ⊎_elim, arith}
+use Rattle.std.specs.Prelude.{sum}
 use Rattle.std.specs.List.{concat}
 use Rattle.sv_channels.specs.Files.{Files}
 use Rattle.digest_sink.specs.Digests.{DigestState}
@@ -32,7 +32,7 @@ use Rattle.play_command.specs.Causes.{is_whole, IsFetched, IsReady}
 use Rattle.play_command.specs.Command.{MadeForm, made}
 use Rattle.play_command.specs.Made.{frames_line, made_ending, made_line, made_outcome, made_seed, made_text, made_value, told_at}
 use Rattle.play_command.specs.Making.{MadeEnds, Tells}
-use Rattle.play_command.specs.Outcome.{Loading, refused, accepted, Bases, not_accepted, ran, unloaded, Outcome, loaded, only_written, output_of, words_of}
+use Rattle.play_command.specs.Outcome.{Loading, refused, accepted, Bases, not_accepted, ran, unloaded, Outcome, only_written, output_of, words_of}
 use Rattle.play_command.specs.Promise.{Promised}
 use Rattle.play_command.specs.Resuming.{Resumable}
 use Rattle.play_command.specs.Saving.{EndsAs}

@@ -1,5 +1,5 @@
 -- Two parts of a script write what the whole writes, over three calls.
-use Rattle.std.proofs.Common.{◌≡◌, ℕ, ◌+◌, ◌-◌, Bool, true, false, cond, ltb, List, [], ◌∷◌, ◌++◌, length, Option, None, Some, Ok, refl, sym, ap, ◌∙◌, subst, arith, append_assoc}
+use Rattle.std.proofs.Common.{◌≡◌, ℕ, ◌+◌, Bool, true, false, cond, ltb, List, [], ◌∷◌, ◌++◌, length, Option, None, Some, Ok, refl, sym, ap, ◌∙◌, subst, arith, append_assoc}
 use Rattle.std.specs.Prelude.{◌≤◌}
 use Rattle.std.specs.FinMap.{get}
 use Rattle.std.proofs.lemmas.Bool.Decides.{nat_tests}
@@ -7,7 +7,7 @@ use Rattle.std.proofs.lemmas.List.{length-append}
 use Rattle.sv_channels.specs.Files.{Files}
 use Rattle.sha2.specs.Sha256.{sha256}
 use Rattle.machine_spec.specs.First.{first_world}
-use Rattle.machine_spec.specs.Output.{Ending as RunEnding, Output, Whole, BadLine, Limited, ends, in_front, played}
+use Rattle.machine_spec.specs.Output.{Ending as RunEnding, Output, Whole, BadLine, Limited, ends, in_front}
 use Rattle.machine_spec.specs.Program.{Program}
 use Rattle.machine_spec.specs.ScriptText.{lines_of, script_limit}
 use Rattle.machine_spec.specs.Tasks.{Task}
@@ -25,7 +25,7 @@ use Rattle.play_command.specs.Laws.{AreCalls, EndingsAgree, Parts, SaveAlike, Tw
 use Rattle.project_spec.specs.Limits.{project_limit}
 use Rattle.script_play.specs.Limits.{limit_save_line}
 use Rattle.play_command.specs.Resuming.{TellsAgain}
-use Rattle.play_command.specs.Outcome.{accepted, continued, Continues, Ending, ran, unsaved, fetched, Outcome, all_of, at_ending, outcome_of, output_from, output_of, put_or_told, resume_outcome, text_of_run, words_of}
+use Rattle.play_command.specs.Outcome.{accepted, continued, Continues, ran, unsaved, fetched, Outcome, all_of, at_ending, outcome_of, output_from, output_of, put_or_told, resume_outcome, text_of_run, words_of}
 use Rattle.run_save.specs.declared.status.Which.TheVariants as which
 use Rattle.play_command.proofs.Readings.{fetched_ok}
 

@@ -1,5 +1,5 @@
 -- THE CAUSES of each status: how the call ends where nothing fails, and how far it came before something did.
-use Rattle.std.specs.Prelude.{◌≡◌, ◌⊎◌, List, ℕ, Bool, true, false}
+use Rattle.std.specs.Prelude.{◌≡◌, ◌⊎◌, Bool, true, false}
 use Rattle.call_outcomes.specs.Faults.{FetchFailed}
 use Rattle.call_outcomes.specs.Seen.{ShelfNow}
 use Rattle.script_words.specs.declared.stops.Stop.TheVariants as stop

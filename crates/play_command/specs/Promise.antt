@@ -1,6 +1,7 @@
 -- THE PROMISE OF `play`, `resume`, `check` AND `made`, in words that the files beside this one define: Command reads the words,
--- Outcome is what the call does where nothing fails, Made the same for `made`, Causes tells why a status comes, Calls what is counted, and Resuming what becomes of a
--- saved run. What is owed about faults, writes and puts stands in call_outcomes/specs, over the course of a status.
+-- Outcome is what the call does where nothing fails, Made the same for `made`, Causes tells why a status comes, Calls what is
+-- counted, and Resuming what becomes of a saved run. What is owed about faults, writes and puts stands in call_outcomes/specs, over
+-- the course of a status.
 --
 -- The words `play p.json s.txt 1 r.json`, over a shelf that holds a project and a script of two frame lines under these names, write
 -- two texts, each by one write:

@@ -29,8 +29,8 @@ pub enum Command<'a> {
     },
     /// `made N FRAMES`: N copies, from 1 to 500, and from 1 to 1,000 frames.
     Made {
-        copies: u32,
-        frames: u32,
+        copies: u16,
+        frames: u16,
     },
 }
 
@@ -125,8 +125,8 @@ fn making<'a>(command: &str, copies: &str, frames: &str) -> Option<Command<'a>>
     }
     if command == "made" {
         Some(Command::Made {
-            copies: copies as u32,
-            frames: frames as u32,
+            copies: copies as u16,
+            frames: frames as u16,
         })
     } else {
         None

@@ -1,5 +1,5 @@
-//! The commands `play`, `resume`, `check` and `made`: the same bytes for the same files, on every machine. specs/Promise.antt says what is
-//! promised.
+//! The commands `play`, `resume`, `check` and `made`: the same bytes for the same files, on every machine.
+//! specs/Promise.antt says what is promised.
 #![tactic(auto)]
 
 mod command;

@@ -83,17 +83,17 @@ fn play_made(alloc: Global, project: &Project, script: &[u8]) -> Result<Telling,
 // The line of the made project: `made N FRAMES blocks B n V`. The only error is want of memory.
 fn made_line(
     alloc: Global,
-    copies: u32,
-    frames: u32,
+    copies: u16,
+    frames: u16,
     blocks: u32,
     value: &str,
 ) -> Result<Vec<u8>, AllocError>
     ensures { IfOk result (λ text. text.items ≡ made_line (record { copies = copies; frames = frames }) blocks value.now) }
 {
     let mut text = Vec::from_slice(alloc, b"made ")?;
-    push_natural(&mut text, copies)?;
+    push_natural(&mut text, u32::from(copies))?;
     text.push(b' ')?;
-    push_natural(&mut text, frames)?;
+    push_natural(&mut text, u32::from(frames))?;
     text.extend_from_slice(b" blocks ")?;
     push_natural(&mut text, blocks)?;
     text.extend_from_slice(b" n ")?;
@@ -124,8 +124,8 @@ fn push_frames_line(
 // Both lines. The only error is want of memory.
 fn made_text(
     alloc: Global,
-    copies: u32,
-    frames: u32,
+    copies: u16,
+    frames: u16,
     blocks: u32,
     telling: &Telling,
 ) -> Result<Vec<u8>, AllocError>
@@ -139,8 +139,8 @@ fn made_text(
 // Writes what came of a run of the made project, by one write.
 fn tell_made<K: Sink>(
     alloc: Global,
-    copies: u32,
-    frames: u32,
+    copies: u16,
+    frames: u16,
     blocks: u32,
     telling: &Telling,
     out: &mut K,
@@ -158,8 +158,8 @@ fn tell_made<K: Sink>(
 // Plays the made script on a project, and writes what came of it.
 fn play_and_tell<K: Sink>(
     alloc: Global,
-    copies: u32,
-    frames: u32,
+    copies: u16,
+    frames: u16,
     project: &Project,
     script: &[u8],
     out: &mut K,
@@ -174,18 +174,18 @@ fn play_and_tell<K: Sink>(
 }
 
 // Makes the project and the script, loads the one and plays the other on it, and writes what came of it.
-pub(crate) fn make<K: Sink>(alloc: Global, copies: u32, frames: u32, out: &mut K) -> Status
+pub(crate) fn make<K: Sink>(alloc: Global, copies: u16, frames: u16, out: &mut K) -> Status
     ensures { (s : ShelfNow) → Completes (made_of (record { copies = copies; frames = frames })) s s
         (sink_now K.written K.faults K.calls out.old) (sink_now K.written K.faults K.calls out.new) result }
 {
-    let Ok(file) = project_text(alloc, copies) else {
+    let Ok(file) = project_text(alloc, u32::from(copies)) else {
         return Status::NoMemory;
     };
     let project = match load(alloc, &file) {
         Ok(project) => project,
         Err(refusal) => return refused(refusal),
     };
-    let Ok(script) = script_text(alloc, frames) else {
+    let Ok(script) = script_text(alloc, u32::from(frames)) else {
         return Status::NoMemory;
     };
     played(play_and_tell(alloc, copies, frames, &project, &script, out))

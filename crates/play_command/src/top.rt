@@ -169,7 +169,8 @@ fn check<H: Shelf, K: Sink>(alloc: Global, project: &str, shelf: &mut H, out: &m
 /// that is longer than 128 MiB writes the line of this limit instead. To check, the project is fetched, and where it is
 /// accepted, the line `accepted T B` with its numbers of targets and blocks is written by one write. With `made` nothing is
 /// fetched: the made project and script (the crate `made_texts`) are played, and in place of the frame texts two lines, by one
-/// write, tell the number and the SHA-256 digest of their bytes. specs/Promise.antt says what the clauses mean. After a fault no further call is made on the shelf or the sink.
+/// write, tell the number and the SHA-256 digest of their bytes. specs/Promise.antt says what the clauses mean. After a fault no
+/// further call is made on the shelf or the sink.
 pub fn play<H: Shelf, K: Sink>(
     alloc: Global,
     words: &[String],

@@ -23,7 +23,7 @@ returns-in-Err c =
     let e = c.play_lines.new.out in
     let words = seeded_words made_seed c.pcg.result.drawn (answers c.pcg.result.source) c.pcg.ensures.drawn c.pcg.ensures.stream in
     let plays = subst (λ v. PlaysAs (played p 1 v.devices.clock v (lines_of c.args.script.now)) last (seen_frames d) (seen_frames e) (Err c.in-Err.stop))
-        (c.in-Ok.ensures.world ∙ ap (first_world p) words) c.in-Err.ensures.plays in
+    (c.in-Ok.ensures.world ∙ ap (first_world p) words) c.in-Err.ensures.plays in
     made_stopped (output_of p (words_of made_seed) c.args.script.now) last d e c.in-Err.stop plays
 
 pub telling_of-requires : goal.telling_of-requires
@@ -34,7 +34,7 @@ telling_of-requires c =
     let e = c.play_lines.new.out in
     let words = seeded_words made_seed c.pcg.result.drawn (answers c.pcg.result.source) c.pcg.ensures.drawn c.pcg.ensures.stream in
     let plays = subst (λ v. PlaysAs (played p 1 v.devices.clock v (lines_of c.args.script.now)) last (seen_frames d) (seen_frames e) (Ok tt))
-        (c.in-Ok.ensures.world ∙ ap (first_world p) words) c.in-Ok-play_lines.ensures.plays in
+    (c.in-Ok.ensures.world ∙ ap (first_world p) words) c.in-Ok-play_lines.ensures.plays in
     let short : length c.args.script.now < 2 ^ 63 = search rules in
     made_counted p 0 (first_world p (words_of made_seed)) last c.args.script.now d e short c.new-frames.ensures plays
 
@@ -47,6 +47,6 @@ returns-in-Ok-telling_of c =
     let t = c.in-Ok-telling_of.telling in
     let words = seeded_words made_seed c.pcg.result.drawn (answers c.pcg.result.source) c.pcg.ensures.drawn c.pcg.ensures.stream in
     let plays = subst (λ v. PlaysAs (played p 1 v.devices.clock v (lines_of c.args.script.now)) last (seen_frames d) (seen_frames e) (Ok tt))
-        (c.in-Ok.ensures.world ∙ ap (first_world p) words) c.in-Ok-play_lines.ensures.plays in
+    (c.in-Ok.ensures.world ∙ ap (first_world p) words) c.in-Ok-play_lines.ensures.plays in
     let told = subst (λ vs. Tells (text_of (value_in 0 0 vs)) e.written t) c.variables.ensures c.in-Ok-telling_of.ensures in
     made_whole (output_of p (words_of made_seed) c.args.script.now) last d e t c.new-frames.ensures plays told
