@@ -31,7 +31,7 @@ use Rattle.script_play.specs.declared.stops.PlayStop.TheVariants.{BadScript, Lim
 use Rattle.play_command.specs.Causes.{is_whole, IsFetched, IsReady}
 use Rattle.play_command.specs.Command.{MadeForm, made}
 use Rattle.play_command.specs.Made.{frames_line, made_ending, made_line, made_outcome, made_seed, made_text, made_value, told_at}
-use Rattle.play_command.specs.Making.{MadeEnds, Tells}
+use Rattle.play_command.specs.Making.{MadeEnds, IsTelling}
 use Rattle.play_command.specs.Outcome.{Loading, refused, accepted, Bases, not_accepted, ran, unloaded, Outcome, only_written, output_of, words_of}
 use Rattle.play_command.specs.Promise.{Promised}
 use Rattle.play_command.specs.Resuming.{Resumable}
@@ -63,8 +63,8 @@ all_frames o w d e start h =
     let is : e.written ≡ d.written ++ concat o.writes = cc all in
     is ∙ ap (λ bs. bs ++ concat o.writes) none
 
-pub made_whole : (o : Output) (w : World Task) (d e : DigestState) (t : Telling) → d ≡ no_frames → PlaysAs o w (seen_frames d) (seen_frames e) (Ok tt) → Tells (made_value w) e.written t → MadeEnds o (Ok t)
-made_whole o w d e t start h told = (w, h.ends, subst (λ bs. Tells (made_value w) bs t) (all_frames o w d e start h) told)
+pub made_whole : (o : Output) (w : World Task) (d e : DigestState) (t : Telling) → d ≡ no_frames → PlaysAs o w (seen_frames d) (seen_frames e) (Ok tt) → IsTelling (made_value w) e.written t → MadeEnds o (Ok t)
+made_whole o w d e t start h told = (w, h.ends, subst (λ bs. IsTelling (made_value w) bs t) (all_frames o w d e start h) told)
 
 pub made_stopped : (o : Output) (w : World Task) (d e : DigestState) (stop : PlayStop) → PlaysAs o w (seen_frames d) (seen_frames e) (Err stop) → MadeEnds o (Err stop)
 made_stopped o w d e (BadScript r) h = h.ends
@@ -93,7 +93,7 @@ written_ends text last s k l (Err (BadScript r)) h w = absurd h
 written_ends text last s k l (Err (Limit m)) h w = absurd h
 
 module _ (form : MadeForm) (blocks : ℕ) (o : Output) (s : ShelfNow) where
-  same_text : (last : World Task) (t : Telling) → Tells (made_value last) (concat o.writes) t → made_line form blocks t.value ++ frames_line t.length t.digest ≡ made_text form blocks last (concat o.writes)
+  same_text : (last : World Task) (t : Telling) → IsTelling (made_value last) (concat o.writes) t → made_line form blocks t.value ++ frames_line t.length t.digest ≡ made_text form blocks last (concat o.writes)
   same_text last t h =
       ap (λ v. made_line form blocks v ++ frames_line t.length t.digest) h.value
       ∙ ap (λ n. made_line form blocks (made_value last) ++ frames_line n t.digest) h.length

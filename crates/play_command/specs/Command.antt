@@ -23,6 +23,13 @@ pub record MadeForm : Type 0 where
   pub copies : ℕ
   pub frames : ℕ
 
+-- the largest of these numbers
+abbrev pub most_copies : ℕ
+most_copies = 500
+
+abbrev pub most_frames : ℕ
+most_frames = 1000
+
 -- what the words ask for: to play a project, to go on with a saved run of one, to check the project in a file, or to play the
 -- made project
 pub data Command : Type 0 where
@@ -56,10 +63,10 @@ abbrev pub made_by : List ℕ → Option ℕ → Option ℕ → Option Command
 made_by command (Some (suc n)) (Some (suc k)) = if bytes_eq command (codes "made") then Some (made (record { copies = suc n; frames = suc k })) else None
 made_by command copies frames = None
 
--- the command of the words, without the program's name; up to 500 copies and 1,000 frames are made
+-- the command of the words, without the program's name
 abbrev pub command_of : List (List ℕ) → Option Command
 command_of (command ∷ project ∷ second ∷ third ∷ save ∷ []) = run_by command project second third save
-command_of (command ∷ copies ∷ frames ∷ []) = made_by command (whole_up_to 500 copies) (whole_up_to 1000 frames)
+command_of (command ∷ copies ∷ frames ∷ []) = made_by command (whole_up_to most_copies copies) (whole_up_to most_frames frames)
 command_of (command ∷ project ∷ []) = check_by command project
 command_of words = None
 

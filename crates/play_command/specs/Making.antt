@@ -13,7 +13,7 @@ use Rattle.play_command.specs.Made.{made_value}
 use Rattle.play_command.specs.declared.made.Telling.{Telling}
 
 -- this text of the variable, and of these bytes of the frames their number and their digest
-pub record Tells (text bytes : List ℕ) (t : Telling) : Type 0 where
+pub record IsTelling (text bytes : List ℕ) (t : Telling) : Type 0 where
   pub value : t.value ≡ text
   pub length : t.length ≡ length bytes
   pub digest : t.digest ≡ sha256 bytes
@@ -21,7 +21,7 @@ pub record Tells (text bytes : List ℕ) (t : Telling) : Type 0 where
 -- A script with this output was played to its end, and the last world and all its frames are told; or it ends at a refused line
 -- or a limit. No write fails.
 abbrev pub MadeEnds : Output → Result Telling PlayStop → Type 0
-MadeEnds o (Ok t) = (last : World Task) × (o.ending ≡ Whole last) × Tells (made_value last) (concat o.writes) t
+MadeEnds o (Ok t) = (last : World Task) × (o.ending ≡ Whole last) × IsTelling (made_value last) (concat o.writes) t
 MadeEnds o (Err (BadScript r)) = (o.ending ≡ BadLine r) × (r ≢ line_refusal.NoMemory)
 MadeEnds o (Err (Limit l)) = EndsBy o.ending l
 MadeEnds o (Err WriteFault) = ⊥

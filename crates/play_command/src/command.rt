@@ -1,10 +1,15 @@
 //! What the command's words ask for.
 
 ghost use Rattle.std.specs.Prelude.{◌≡◌, ◌^◌, ◌-◌, map, string_bytes, option_map};
-ghost use Rattle.play_command.specs.Command.{check_by, made_by, play_by, run_by, command_of, command_view, name_to_save};
+ghost use Rattle.play_command.specs.Command.{check_by, made_by, play_by, run_by, command_of, command_view, most_copies, most_frames, name_to_save};
 ghost use Rattle.play_command.specs.WholeNumbers.{whole_up_to};
 
 use crate::whole_numbers::whole_up_to;
+
+// The largest numbers of `made N FRAMES`.
+const MOST_COPIES: u64 = 500;
+
+const MOST_FRAMES: u64 = 1000;
 
 /// What the command's words ask for, with the names of the files that they give.
 #[derive(Clone, Copy, Debug)]
@@ -116,10 +121,10 @@ fn checking<'a>(command: &str, project: &'a str) -> Option<Command<'a>>
 }
 
 fn making<'a>(command: &str, copies: &str, frames: &str) -> Option<Command<'a>>
-    ensures { option_map command_view result ≡ made_by command.now (whole_up_to 500 copies.now) (whole_up_to 1000 frames.now) }
+    ensures { option_map command_view result ≡ made_by command.now (whole_up_to most_copies copies.now) (whole_up_to most_frames frames.now) }
 {
-    let copies = whole_up_to(copies, 500)?;
-    let frames = whole_up_to(frames, 1000)?;
+    let copies = whole_up_to(copies, MOST_COPIES)?;
+    let frames = whole_up_to(frames, MOST_FRAMES)?;
     if copies == 0 || frames == 0 {
         return None;
     }

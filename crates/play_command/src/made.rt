@@ -12,7 +12,7 @@ ghost use Rattle.script_play.specs.Stops.{course};
 ghost use Rattle.play_command.specs.Command.{made as made_of};
 ghost use Rattle.play_command.specs.Made.{frames_line, made_ending, made_line, made_seed};
 ghost use Rattle.play_command.specs.Outcome.{output_of, words_of};
-ghost use Rattle.play_command.specs.Making.{Tells, MadeEnds};
+ghost use Rattle.play_command.specs.Making.{IsTelling, MadeEnds};
 ghost use Rattle.play_command.specs.Saving.{EndsAs};
 ghost use Rattle.play_command.specs.Stages.{Completes};
 
@@ -50,7 +50,7 @@ fn telling_of(
     frames: DigestSink,
 ) -> Result<Telling, AllocError>
     requires { frames.calls < 2 ^ 64 - 1 }
-    ensures { IfOk result (λ telling. Tells (text_of (value_in 0 0 variables.now)) frames.written telling) }
+    ensures { IfOk result (λ telling. IsTelling (text_of (value_in 0 0 variables.now)) frames.written telling) }
 {
     let value = to_text(alloc, variables.value(InstanceId(0), 0))?;
     let length = frames.length();

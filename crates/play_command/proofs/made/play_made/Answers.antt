@@ -9,7 +9,7 @@ use Rattle.project_check.specs.Loaded.{program_of}
 use Rattle.script_play.specs.Scripts.{PlaysAs}
 use Rattle.sequencer.specs.Runs.{world_of}
 use Rattle.play_command.specs.Made.{made_seed}
-use Rattle.play_command.specs.Making.{Tells}
+use Rattle.play_command.specs.Making.{IsTelling}
 use Rattle.play_command.specs.Outcome.{output_of, words_of}
 use Rattle.play_command.proofs.Again.{seeded_words}
 use Rattle.play_command.proofs.MadeCalls.{seen_frames, made_whole, made_stopped, made_counted}
@@ -48,5 +48,5 @@ returns-in-Ok-telling_of c =
     let words = seeded_words made_seed c.pcg.result.drawn (answers c.pcg.result.source) c.pcg.ensures.drawn c.pcg.ensures.stream in
     let plays = subst (λ v. PlaysAs (played p 1 v.devices.clock v (lines_of c.args.script.now)) last (seen_frames d) (seen_frames e) (Ok tt))
     (c.in-Ok.ensures.world ∙ ap (first_world p) words) c.in-Ok-play_lines.ensures.plays in
-    let told = subst (λ vs. Tells (text_of (value_in 0 0 vs)) e.written t) c.variables.ensures c.in-Ok-telling_of.ensures in
+    let told = subst (λ vs. IsTelling (text_of (value_in 0 0 vs)) e.written t) c.variables.ensures c.in-Ok-telling_of.ensures in
     made_whole (output_of p (words_of made_seed) c.args.script.now) last d e t c.new-frames.ensures plays told
