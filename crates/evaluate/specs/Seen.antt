@@ -1,5 +1,5 @@
 -- What an evaluation reads, as the view of the reference machine, and the values of the inputs of a block.
-use Rattle.std.specs.Prelude.{ℕ, List, [], slice_get, unwrap_or, option_map, Option, None, Some}
+use Rattle.std.specs.Prelude.{ℕ, List, [], slice_get, unwrap_or, Option, None, Some}
 use Rattle.scratch_values.specs.Named.{Arguments}
 use Rattle.scratch_values.specs.Args.{arguments}
 use Rattle.scratch_values.specs.declared.names.ResolvedField.{ResolvedField}
@@ -7,13 +7,21 @@ use Rattle.scratch_values.specs.declared.value.Value.{Value}
 use Rattle.machine_spec.specs.Outcome.{Outcome, then_do}
 use Rattle.machine_spec.specs.Words.{Words, Drawn, undrawn, made_of}
 use Rattle.machine_spec.specs.View.{View as Seen}
+use Rattle.machine_spec.specs.Threads.{Params}
 use Rattle.machine_spec.specs.Evaluate.{value, values}
 use Rattle.project_spec.specs.declared.blocks.Operand.{Operand}
 use Rattle.project_spec.specs.Trees.{Sheet, operand_expression, inputs_by, expression}
 use Rattle.cached_blocks.specs.declared.block.CachedBlock.{CachedBlock}
 use Rattle.cached_blocks.specs.Cached.{cached_blocks}
 use Rattle.project_check.specs.Loaded.{program_of, sheet_at}
+use Rattle.thread_frames.specs.declared.level.Level.{Level}
+use Rattle.thread_frames.specs.Levels.{near_params}
 use Rattle.evaluate.specs.declared.view.View.{View}
+
+-- the parameters of the procedure that runs: those of the nearest level of the thread that has some
+abbrev pub params_of : Option (List Level) → Option Params
+params_of None = None
+params_of (Some levels) = near_params levels
 
 abbrev pub seen : View → Seen
 seen v = record {
@@ -22,7 +30,7 @@ seen v = record {
   variables = v.variables.now;
   devices = v.devices.now;
   here = v.here;
-  params = unwrap_or (option_map (λ p. p.now) v.params) [];
+  params = unwrap_or (params_of v.levels) [];
 }
 
 -- the blocks of the target whose block is evaluated, and what they name

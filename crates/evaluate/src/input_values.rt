@@ -17,7 +17,7 @@ ghost use Rattle.evaluate.specs.Stops.{IsOfValuesOrMemory};
 
 use crate::block_links::{linked, way_at};
 use crate::operations::{counted, held_compared, held_joined, number_in, truth_in};
-use crate::view::{View, sight};
+use crate::view::{View, sight, stores};
 use crate::ways::{Arithmetic, Comparison, Connective, Way, calculated, connected};
 use cached_blocks::{a_script_is_told, an_expression_is_told};
 use machine_spec::BlockId;
@@ -46,11 +46,11 @@ fn operand<'p, R: Rng + Drop>(
 {
     match operand {
         Operand::Literal(literal) => Ok(Held::Lent(literal)),
-        Operand::Variable(named) => match variable(&sight(view), *named).clone() {
+        Operand::Variable(named) => match variable(&stores(view), *named).clone() {
             Ok(value) => Ok(Held::Own(value)),
             Err(_) => Err(Stop::NoMemory),
         },
-        Operand::List(list) => match contents(alloc, &sight(view), *list) {
+        Operand::List(list) => match contents(alloc, &stores(view), *list) {
             Ok(value) => Ok(Held::Own(value)),
             Err(stop) => Err(stop),
         },
@@ -78,8 +78,8 @@ fn lent<'v, R: Rng + Drop>(
 {
     match operand {
         Operand::Literal(literal) => Ok(Held::Lent(literal)),
-        Operand::Variable(named) => Ok(Held::Lent(variable(&sight(view), *named))),
-        Operand::List(list) => match contents(alloc, &sight(view), *list) {
+        Operand::Variable(named) => Ok(Held::Lent(variable(&stores(view), *named))),
+        Operand::List(list) => match contents(alloc, &stores(view), *list) {
             Ok(value) => Ok(Held::Own(value)),
             Err(stop) => Err(stop),
         },
@@ -107,8 +107,8 @@ fn number<R: Rng + Drop>(
 {
     match operand {
         Operand::Literal(literal) => Ok(to_number(literal)),
-        Operand::Variable(named) => Ok(to_number(variable(&sight(view), *named))),
-        Operand::List(list) => match contents(alloc, &sight(view), *list) {
+        Operand::Variable(named) => Ok(to_number(variable(&stores(view), *named))),
+        Operand::List(list) => match contents(alloc, &stores(view), *list) {
             Ok(value) => Ok(number_in(value)),
             Err(stop) => Err(stop),
         },
@@ -136,8 +136,8 @@ fn truth<R: Rng + Drop>(
 {
     match operand {
         Operand::Literal(literal) => Ok(to_truth(literal)),
-        Operand::Variable(named) => Ok(to_truth(variable(&sight(view), *named))),
-        Operand::List(list) => match contents(alloc, &sight(view), *list) {
+        Operand::Variable(named) => Ok(to_truth(variable(&stores(view), *named))),
+        Operand::List(list) => match contents(alloc, &stores(view), *list) {
             Ok(value) => Ok(truth_in(value)),
             Err(stop) => Err(stop),
         },

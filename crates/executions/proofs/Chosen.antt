@@ -8,13 +8,11 @@ use Rattle.opcode_table.specs.declared.opcode.Opcode.{Opcode}
 use Rattle.opcode_table.specs.declared.opcode.Opcode.TheVariants.{ControlForever, ControlRepeatUntil, ControlIf, ControlIfElse}
 use Rattle.opcode_table.specs.Kinds.{kind}
 use Rattle.scratch_values.specs.Named.{Arguments}
-use Rattle.script_words.specs.declared.stops.CounterKind.{CounterKind}
 use Rattle.script_words.specs.declared.stops.Stop.{Stop}
-use Rattle.script_words.specs.declared.stops.Stop.TheVariants as stops
 use Rattle.machine_spec.specs.Keeping.{has_branches, under_fits}
 use Rattle.machine_spec.specs.Laws.{is_own}
 use Rattle.machine_spec.specs.ControlRows.{branch_if}
-use Rattle.machine_spec.specs.Outcome.{Outcome, Goes, Full, TooLong, Spent, StopIs, most_levels, with_room}
+use Rattle.machine_spec.specs.Outcome.{Outcome, Goes, Full, StopIs, most_levels, with_room}
 use Rattle.machine_spec.specs.Script.{Command}
 use Rattle.machine_spec.specs.Step.{Applied, row}
 use Rattle.machine_spec.specs.View.{truth_at}

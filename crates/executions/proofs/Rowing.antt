@@ -1,5 +1,5 @@
 -- The row of the block of a runner, and its control.
-use Rattle.std.proofs.Common.{◌≡◌, ℕ, ◌<◌, Bool, true, [], length, Option, Some, Result, Err, refl, sym, ap, ◌∙◌, subst}
+use Rattle.std.proofs.Common.{◌≡◌, ℕ, ◌<◌, Bool, true, [], length, Option, Some, Result, Err, refl, sym, subst}
 use Rattle.std.specs.Prelude.{slice_get, unwrap_or}
 use Rattle.rand_core.specs.Stream.{Stream}
 use Rattle.script_words.specs.declared.counter.Counted.{Counted}
@@ -21,7 +21,7 @@ use Rattle.machine_spec.specs.declared.threads.Control.{Control}
 use Rattle.machine_spec.specs.declared.threads.Control.TheVariants.{Next, Clone}
 use Rattle.machine_spec.specs.declared.threads.Report.{Report}
 use Rattle.machine_spec.specs.Pending.{settle}
-use Rattle.machine_spec.specs.Places.{Places, at_place, put, on_place}
+use Rattle.machine_spec.specs.Places.{Places, at_place, on_place}
 use Rattle.machine_spec.specs.Starting.{open_levels}
 use Rattle.machine_spec.specs.Step.{Moment, position, opens_level, step}
 use Rattle.machine_spec.specs.Tasks.{Task}

@@ -10,7 +10,7 @@ use Rattle.machine_spec.specs.World.{World}
 use Rattle.machine_spec.specs.declared.threads.Control.{Control}
 use Rattle.machine_spec.specs.declared.threads.Report.{Report}
 use Rattle.machine_spec.specs.declared.threads.Which.{Which}
-use Rattle.machine_spec.specs.Places.{Places, at_place, place, running}
+use Rattle.machine_spec.specs.Places.{at_place, place, running}
 use Rattle.project_spec.specs.declared.blocks.Block.{Block}
 use Rattle.project_check.specs.declared.project.Project.{Project}
 use Rattle.project_check.specs.Loaded.{blocks_at, tables_of}

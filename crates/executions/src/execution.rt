@@ -1,10 +1,13 @@
 //! One execution of the running thread.
 
-ghost use Rattle.std.specs.Prelude.{◌≡◌, length, IfOk};
+ghost use Rattle.std.specs.Prelude.{◌≡◌, length, IfOk, Some};
 ghost use Rattle.opcode_table.specs.declared.opcode.Opcode.TheVariants.{ControlForever};
 ghost use Rattle.machine_spec.specs.Outcome.{Goes, StopIs};
+ghost use Rattle.machine_spec.specs.Places.{at_place};
 ghost use Rattle.machine_spec.specs.Step as machine;
 ghost use Rattle.project_check.specs.Loaded.{program_of};
+ghost use Rattle.thread_frames.specs.Levels.{top_block};
+ghost use Rattle.thread_frames.specs.Threads.{levels_of};
 ghost use Rattle.executions.specs.Answers.{Answers, Steps};
 ghost use Rattle.executions.specs.Blocks.{IsBlock};
 ghost use Rattle.executions.specs.Runners.{IsRunner, IsRunnerAfter, RunsAt};
@@ -47,7 +50,7 @@ impl<R: Rng + Drop> State<R> {
         requires op { block.now.op ≡ ControlForever }
         ensures { Answers R.stream project.now slot (Steps R.stream project.now slot late self.old) result runner.new self.new }
     {
-        let params = self.threads.params(runner.which);
+        let levels = self.threads.levels_at(runner.which);
         let view = View {
             project,
             targets: &self.targets,
@@ -55,7 +58,7 @@ impl<R: Rng + Drop> State<R> {
             devices: &self.devices,
             here: runner.here,
             target: runner.target,
-            params,
+            levels: Some(levels),
         };
         let _none = no_inputs(&view, id);
         self.enter_chosen(project, slot, runner, id, block, 1, true, late)
@@ -78,7 +81,7 @@ impl<R: Rng + Drop> State<R> {
         requires inputs { length block.now.inputs ≡ 0 }
         ensures { Answers R.stream project.now slot (Steps R.stream project.now slot late self.old) result runner.new self.new }
     {
-        let params = self.threads.params(runner.which);
+        let levels = self.threads.levels_at(runner.which);
         let view = View {
             project,
             targets: &self.targets,
@@ -86,7 +89,7 @@ impl<R: Rng + Drop> State<R> {
             devices: &self.devices,
             here: runner.here,
             target: runner.target,
-            params,
+            levels: Some(levels),
         };
         let args = no_inputs(&view, id);
         self.enact(alloc, project, slot, runner, id, &args, late)
@@ -133,7 +136,7 @@ impl<R: Rng + Drop> State<R> {
         requires inputs { length block.now.inputs ≡ 1 }
         ensures { Answers R.stream project.now slot (Steps R.stream project.now slot late self.old) result runner.new self.new }
     {
-        let near = self.threads.params(runner.which);
+        let levels = self.threads.levels_at(runner.which);
         let view = View {
             project,
             targets: &self.targets,
@@ -141,7 +144,7 @@ impl<R: Rng + Drop> State<R> {
             devices: &self.devices,
             here: runner.here,
             target: runner.target,
-            params: near,
+            levels: Some(levels),
         };
         let first = match only_input(alloc, &view, id, &mut self.words) {
             Ok(first) => first,
@@ -168,7 +171,7 @@ impl<R: Rng + Drop> State<R> {
         requires { RunsAt project.now slot runner.old self.old id }
         ensures { Answers R.stream project.now slot (Steps R.stream project.now slot late self.old) result runner.new self.new }
     {
-        let params = self.threads.params(runner.which);
+        let levels = self.threads.levels_at(runner.which);
         let view = View {
             project,
             targets: &self.targets,
@@ -176,7 +179,7 @@ impl<R: Rng + Drop> State<R> {
             devices: &self.devices,
             here: runner.here,
             target: runner.target,
-            params,
+            levels: Some(levels),
         };
         match &inputs(alloc, &view, id, &mut self.words) {
             Ok(args) => self.enact(alloc, project, slot, runner, id, args, late),
@@ -206,6 +209,26 @@ impl<R: Rng + Drop> State<R> {
         }
     }
 
+    /// One execution of a runner whose top level holds this block: what `step` does, which looks for the block.
+    #[inline(always)]
+    pub fn step_at(
+        &mut self,
+        alloc: Global,
+        project: &Project,
+        slot: u64,
+        runner: &mut Runner,
+        id: BlockId,
+        late: bool,
+    ) -> Result<Report, Stop>
+        requires runs { IsRunner project.now slot runner.old self.old }
+        requires block { top_block (levels_of (at_place runner.old.which self.old.threads)) ≡ Some id }
+        ensures ok { IfOk result (λ report. machine.step (program_of project.now) slot late (seen R.stream project.now self.old) ≡ Goes (record { world = seen R.stream project.now self.new; report = report })) }
+        ensures after { IfOk result (λ report. IsRunnerAfter project.now slot report runner.new self.new) }
+        ensures stop { StopIs result (machine.step (program_of project.now) slot late (seen R.stream project.now self.old)) }
+    {
+        self.execute(alloc, project, slot, runner, id, late)
+    }
+
     /// One execution of a runner, while the thread of a slot is visited: the inputs of its block, the block's row, and what
     /// the row's control does with this thread and with others. `late` says that warp time had passed before it. The answer
     /// tells what the thread reports; where it has not ended, the runner tells where it stands now. `Stop` is the first limit that is met: `Stack` exactly where a level is opened and 65,536 are open, `Text` and `Counter` exactly
@@ -225,7 +248,7 @@ impl<R: Rng + Drop> State<R> {
         ensures stop { StopIs result (machine.step (program_of project.now) slot late (seen R.stream project.now self.old)) }
     {
         match self.block_of(runner) {
-            Some(id) => self.execute(alloc, project, slot, runner, id, late),
+            Some(id) => self.step_at(alloc, project, slot, runner, id, late),
             None => unreachable!(),
         }
     }

@@ -57,12 +57,13 @@ impl<R: Rng + Drop> State<R> {
         }
     }
 
-    /// The warp flag of a runner: that of its top level, and false where no level is left.
-    #[inline]
-    pub fn is_warp(&self, runner: &Runner) -> bool
-        ensures { result ≡ warp_flag (levels_of (at_place runner.now.which self.now.threads)) }
+    /// The block of the top level of a runner, if there is one, and the warp flag of that level; that of no levels is false.
+    #[inline(always)]
+    pub fn head(&self, runner: &Runner) -> (Option<BlockId>, bool)
+        ensures block { result.0 ≡ top_block (levels_of (at_place runner.now.which self.now.threads)) }
+        ensures warp { result.1 ≡ warp_flag (levels_of (at_place runner.now.which self.now.threads)) }
     {
-        thread_moves::is_warp(&self.threads, runner.which)
+        thread_moves::head(&self.threads, runner.which)
     }
 
     // The block of the top level of a runner.

@@ -1,5 +1,5 @@
 -- The number of the frame and the clock behind each stage of a frame.
-use Rattle.std.proofs.Common.{◌≡◌, ℕ, ◌<◌, Result, Ok, Err, ◌∙◌, subst, arith}
+use Rattle.std.proofs.Common.{◌≡◌, ℕ, ◌<◌, Result, Ok, Err, subst, arith}
 use Rattle.std.specs.Prelude.{IfOk}
 use Rattle.script_words.specs.declared.stops.Stop.{Stop}
 use Rattle.machine_spec.specs.Outcome.{Outcome, Goes, IfGoes}

@@ -1,5 +1,5 @@
 -- A slice by one more execution.
-use Rattle.std.proofs.Common.{◌≡◌, ℕ, zero, suc, ◌+◌, ◌-◌, ◌<◌, ◌≤◌, Bool, true, false, Option, Some, None, Err, refl, sym, ap, ◌∙◌, subst, arith}
+use Rattle.std.proofs.Common.{◌≡◌, ℕ, zero, suc, ◌+◌, ◌-◌, ◌<◌, ◌≤◌, Bool, true, false, Option, Some, None, Err, refl, sym, ap, ◌∙◌, arith}
 use Rattle.std.specs.Option.{option_map}
 use Rattle.script_words.specs.declared.stops.Stop.{Stop}
 use Rattle.machine_spec.specs.declared.threads.Report.{Report}
@@ -8,7 +8,7 @@ use Rattle.machine_spec.specs.Outcome.{Outcome, Goes, then_do, StopIs}
 use Rattle.machine_spec.specs.Places.{Places, at_place, running}
 use Rattle.machine_spec.specs.Slice.{go_on, is_late, counted_after, slice_goes_on, Executing, behind, slice_by, flag_of}
 use Rattle.project_spec.specs.Trees.{Sheet}
-use Rattle.thread_frames.specs.Levels.{warp_flag}
+use Rattle.thread_frames.specs.Levels.{top_block, warp_flag}
 use Rattle.thread_frames.specs.Reading.{task}
 use Rattle.thread_frames.specs.Threads.{Thread, levels_of}
 use Rattle.thread_moves.specs.Standing.{is_ended}
@@ -16,7 +16,7 @@ use Rattle.project_check.specs.declared.project.Project.{Project}
 use Rattle.executions.specs.declared.state.State.{State}
 use Rattle.executions.specs.Seen.{sheets, seen_threads}
 use Rattle.executions.specs.declared.runner.Runner.{Runner}
-use Rattle.executions.specs.Ready.{IsKept}
+use Rattle.executions.specs.Ready.{IsKept, IsReady}
 use Rattle.executions.specs.Runners.{IsRunner, IsRunnerUnless, IsRunnerAfter}
 use Rattle.machine_spec.proofs.Placing.{running_seen}
 use Rattle.executions.proofs.Stops.{stop-then, stop-same}
@@ -54,6 +54,21 @@ off_by r before after flag late same h = by (is_ended r) refl
 -- the flag of a runner is that of its thread in the list
 pub runner_flag : {R : Type 0} (p : Project) (i : ℕ) (r : Runner) (w : State R) → IsRunner p i r w → flag_of (running i (seen_threads p w.threads)) ≡ warp_flag (levels_of (at_place r.which w.threads))
 runner_flag p i r w runs = flag_seen p i w.threads ∙ ap (λ z. warp_flag (levels_of (at_place z w.threads))) (sym runs.place_is)
+
+-- the top level of a thread that is about to execute a block holds it
+pub ready_block : {R : Type 0} (p : Project) (i : ℕ) (w : State R) → IsReady p i w → top_block (levels_of (running i w.threads)) ≡ None → ⊥
+ready_block p i w ready none =
+    let some = ready.ready.holds in
+    let is = sym (ap (λ o. top_block (levels_of o)) ready.found) ∙ none in
+    cc
+
+-- so does that of a runner
+pub holds_block : {R : Type 0} (p : Project) (i : ℕ) (r : Runner) (w : State R) → IsRunner p i r w → top_block (levels_of (at_place r.which w.threads)) ≡ None → ⊥
+holds_block p i r w runs none =
+    let here = ap (λ z. at_place z w.threads) runs.place_is ∙ runs.ready.found in
+    let some = runs.ready.ready.holds in
+    let is = sym (ap (λ o. top_block (levels_of o)) here) ∙ none in
+    cc
 
 runs_by : {R : Type 0} (b : Bool) (p : Project) (i : ℕ) (r : Runner) (w : State R) → b ≡ false → IsRunnerUnless b p i r w → IsRunner p i r w
 runs_by true p i r w e h = absurd (cc e)

@@ -1,6 +1,6 @@
 -- No execution changes the number of the frame or the clock, and so no pass, no timer that ends and no edge hat does.
 use Rattle.std.proofs.Common.{◌≡◌, ℕ, zero, suc, ◌==◌, Bool, true, false, not, ◌&&◌, ◌||◌, List, [], ◌∷◌, drop, Option, Some, None, pos, negsuc, refl, ◌∙◌}
-use Rattle.std.specs.Prelude.{is_some, nat_lt, codes, bytes_eq, option_map, slice_index_or, if◌then◌else◌}
+use Rattle.std.specs.Prelude.{is_some, nat_lt, codes, option_map, slice_index_or, if◌then◌else◌}
 use Rattle.opcode_table.specs.declared.opcode.Opcode.{Opcode}
 use Rattle.opcode_table.specs.declared.opcode.Opcode.TheVariants.{ControlRepeat, ControlWait, EventBroadcastAndWait, ProceduresCall, SensingAskAndWait, LooksSay, LooksThink, LooksSayForSecs, LooksThinkForSecs, LooksSwitchCostumeTo, LooksSwitchBackdropTo, LooksSwitchBackdropToAndWait, LooksChangeSizeBy, LooksSetSizeTo, LooksChangeEffectBy, LooksSetEffectTo, LooksShow, LooksHide, LooksGoToFrontBack, LooksGoForwardBackwardLayers}
 use Rattle.opcode_table.specs.declared.groups.Group.{Group}
@@ -48,7 +48,7 @@ use Rattle.machine_spec.specs.Stopping.{scene_of, with_scene, bubble_emptied, fi
 use Rattle.machine_spec.specs.Tasks.{Task, tasks, listed, levels, Begun, begun, begin, begin_pairs, resumed}
 use Rattle.machine_spec.specs.World.{World}
 use Rattle.machine_spec.specs.Step.{Applied, applied, with_motion, with_looks, with_data, row_by, row, position, opens_level, Moment, moved, moved_with_room, after_start, others_stopped, clone_deleted, cloned, cloned_unless, deleted_if, act, view_of, execute, execute_first, step_by, step}
-use Rattle.machine_spec.specs.Slice.{go_on, is_late, counted_after, slice_goes_on, behind, slice_by, executing, flag_of, slice, most_executions, turn_of, turn_by, turn, woken, without_detached, is_active, visit, Passed, next_place, pass_on, pass, most_slices, without_done}
+use Rattle.machine_spec.specs.Slice.{go_on, is_late, counted_after, slice_goes_on, behind, slice_by, executing, most_executions, turn_of, turn_by, turn, woken, without_detached, is_active, visit, Passed, next_place, pass_on, pass, most_slices, without_done}
 use Rattle.machine_spec.specs.Frame.{still_fits, timer_ended, without_timer, end_due, next_due, Found, timers_ended, recorded, edges_of, edge_noted, edge_fired, edge_passed, edge_value, edge_view, edge_one, edges_passed, passes_go_on, passes}
 use Rattle.frames.specs.Times.{IsSameTime}
 

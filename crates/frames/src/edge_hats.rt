@@ -115,7 +115,7 @@ fn pass_edge_hat<R: Rng + Drop>(
         devices: &state.devices,
         here: edge.of,
         target: edge.target,
-        params: None,
+        levels: None,
     };
     match evaluate_hat(alloc, &view, edge.hat, &mut state.words) {
         Ok(value) => record_value(state, alloc, project, edge, value),

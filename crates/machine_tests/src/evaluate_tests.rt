@@ -91,7 +91,7 @@ fn evaluated(
         devices: &stores.devices,
         here: InstanceId(0),
         target: TargetId(0),
-        params: None,
+        levels: None,
     };
     assert!(rt; project.target_count() > 0);
     assert!(rt; project.blocks(TargetId(0)).len() > 1);

@@ -30,7 +30,7 @@ impl<T: Drop> Pool<T> {
     }
 
     /// How many slots are used: as many as all stacks have values.
-    #[inline]
+    #[inline(always)]
     pub fn used(&self) -> usize
         ensures { result ≡ used self.now }
     {
@@ -38,7 +38,7 @@ impl<T: Drop> Pool<T> {
     }
 
     /// Puts a value on a stack, for which there is room. It takes no memory.
-    #[inline]
+    #[inline(always)]
     pub fn push(&mut self, stack: &mut Stack, value: T)
         requires there { IsIn self.old stack.old }
         requires room { used self.old < capacity self.old }
@@ -53,7 +53,7 @@ impl<T: Drop> Pool<T> {
     }
 
     /// Takes the top value off a stack, and frees its slot; None exactly where the stack has no value.
-    #[inline]
+    #[inline(always)]
     pub fn pop(&mut self, stack: &mut Stack) -> Option<T>
         requires { IsIn self.old stack.old }
         ensures value { result ≡ slice_get (values self.old stack.old) 0 }
@@ -71,7 +71,7 @@ impl<T: Drop> Pool<T> {
     }
 
     /// The top value of a stack; None exactly where it has no value.
-    #[inline]
+    #[inline(always)]
     pub fn top(&self, stack: Stack) -> Option<&T>
         requires { IsIn self.now stack }
         ensures { option_copied result ≡ slice_get (values self.now stack) 0 }
@@ -83,7 +83,7 @@ impl<T: Drop> Pool<T> {
     }
 
     /// The top value of a stack, to be changed; there is one.
-    #[inline]
+    #[inline(always)]
     pub fn top_mut(&mut self, stack: Stack) -> &mut T
         requires there { IsIn self.old stack }
         requires some { 0 < stack.depth }
@@ -94,7 +94,7 @@ impl<T: Drop> Pool<T> {
     }
 
     /// The stack without its top value, to be read while the pool stands as it is: it follows one link, and changes nothing.
-    #[inline]
+    #[inline(always)]
     pub fn under(&self, stack: Stack) -> Stack
         requires { IsIn self.now stack }
         ensures there { IsIn self.now result }

@@ -13,7 +13,7 @@ pub(crate) struct Slot<T> {
 
 impl<T> Slot<T> {
     // The value, to be changed.
-    #[inline]
+    #[inline(always)]
     pub(crate) fn value_mut(&mut self) -> &mut T
         ensures* lends { sem 𝓛 (LendsValue T.row self.entry result) }
         ensures value { result.now ≡ self.old.value }

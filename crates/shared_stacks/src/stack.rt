@@ -15,7 +15,7 @@ impl Stack {
     pub const EMPTY: Stack = Stack { top: 0, depth: 0 };
 
     /// How many values it has.
-    #[inline]
+    #[inline(always)]
     pub fn depth(&self) -> usize
         ensures { result ≡ self.now.depth }
     {

@@ -1,5 +1,5 @@
 -- The levels of a thread in the pool, where they are changed.
-use Rattle.std.proofs.Common.{◌≡◌, ℕ, ◌-◌, ◌<◌, List, [], ◌∷◌, length, Option, Some, None, slice_get, refl, sym, ap, subst, ◌∙◌, arith}
+use Rattle.std.proofs.Common.{◌≡◌, ℕ, ◌-◌, ◌<◌, Bool, List, [], ◌∷◌, length, Option, Some, None, slice_get, refl, sym, ap, subst, ◌∙◌, arith}
 use Rattle.std.specs.Prelude.{nat_lt}
 use Rattle.std.proofs.lemmas.Bool.Decides.{nat_tests}
 use Rattle.shared_stacks.specs.declared.stack.Stack.{Stack}
@@ -8,10 +8,11 @@ use Rattle.shared_stacks.specs.Chains.{IsIn, Moves, values, values_from}
 use Rattle.shared_stacks.specs.Lending.{with_top}
 use Rattle.shared_stacks.specs.Shared.{Stand}
 use Rattle.shared_stacks.proofs.Chains.{Moves-with_top, values-with_top, length-values}
+use Rattle.machine_spec.specs.declared.threads.Context.{Context}
 use Rattle.machine_spec.specs.declared.threads.Which.{Which}
 use Rattle.machine_spec.specs.Outcome.{most_levels}
 use Rattle.machine_spec.specs.Places.{Places, at_place, put, on_place, put_some}
-use Rattle.thread_frames.specs.Levels.{Level, on_top, without_top, top_context}
+use Rattle.thread_frames.specs.Levels.{Level, on_top, with_context, with_loop, without_top, top_context}
 use Rattle.thread_frames.specs.Threads.{Thread, on_levels, levels_of}
 use Rattle.thread_frames.specs.Entries.{Entry, seen, seen_all, entry_with, stacks_of, stack_of}
 use Rattle.thread_frames.specs.Keeping.{IsKept}
@@ -27,6 +28,11 @@ left_over d = grind (arith, nat_tests)
 pub top_context-first : (ls : List Level) (l : Level) → slice_get ls 0 ≡ Some l → l.context ≡ top_context ls
 top_context-first [] l first = absurd (cc)
 top_context-first (x ∷ xs) l first = let e : x ≡ l = cc in ap (λ (y : Level). y.context) (sym e)
+
+-- a top level that keeps a loop mark and a context
+pub kept-first : (m : Bool) (c : Context) (ls : List Level) (l : Level) → slice_get ls 0 ≡ Some l → with_context c (with_loop m l) ∷ without_top ls ≡ on_top (with_context c) (on_top (with_loop m) ls)
+kept-first m c [] l first = absurd (cc)
+kept-first m c (x ∷ xs) l first = let e : x ≡ l = cc in ap (λ (y : Level). with_context c (with_loop m y) ∷ xs) (sym e)
 
 pub values-none : (p : Pool Level) (s : Stack) → s.depth ≡ 0 → values p s ≡ []
 values-none p s none = ap (λ n. values_from p n s.top) none

@@ -15,11 +15,15 @@ pub struct Level {
     pub params: Option<Boxed<Params>>,
 }
 
+// Gives up what a block kept.
+#[inline(never)]
+fn give_up_context(_context: Context) {}
+
 impl Level {
     ghost use Rattle.std.specs.Prelude.{◌≡◌};
     ghost use Rattle.machine_spec.specs.declared.threads.Context.TheVariants.{Fresh};
     ghost use Rattle.machine_spec.specs.Keeping.{is_called};
-    ghost use Rattle.thread_frames.specs.Levels.{new_level, at_next, with_loop, with_context, with_params};
+    ghost use Rattle.thread_frames.specs.Levels.{is_plain, new_level, at_next, with_loop, with_context, with_params};
 
     // A level that was just opened.
     #[inline]
@@ -35,15 +39,45 @@ impl Level {
         }
     }
 
+    // Whether the block keeps nothing, and has not called.
+    #[inline(always)]
+    pub(crate) fn is_plain(&self) -> bool
+        ensures { result ≡ is_plain self.now }
+    {
+        matches!(self.context, Context::Fresh) && self.params.is_none()
+    }
+
     // The level goes to the next block.
-    #[inline]
+    #[inline(always)]
     pub(crate) fn go_next(&mut self, next: Option<BlockId>)
+        ensures { self.new ≡ at_next next self.old }
+    {
+        if self.is_plain() {
+            self.block = next;
+            self.is_loop = false;
+        } else {
+            self.go_next_kept(next);
+        }
+    }
+
+    // The level goes to the next block, and gives up what its block kept.
+    #[inline(never)]
+    fn go_next_kept(&mut self, next: Option<BlockId>)
         ensures { self.new ≡ at_next next self.old }
     {
         self.block = next;
         self.is_loop = false;
         self.context = Context::Fresh;
         self.params = None;
+    }
+
+    // Sets the loop mark, and what the block keeps.
+    #[inline(always)]
+    pub(crate) fn keep(&mut self, is_loop: bool, context: Context)
+        ensures { self.new ≡ with_context context (with_loop is_loop self.old) }
+    {
+        self.is_loop = is_loop;
+        self.set_context(context);
     }
 
     // Sets the loop mark.
@@ -55,11 +89,16 @@ impl Level {
     }
 
     // Sets what the block keeps.
-    #[inline]
+    #[inline(always)]
     pub(crate) fn set_context(&mut self, context: Context)
         ensures { self.new ≡ with_context context self.old }
     {
-        self.context = context;
+        let old = mem::replace(&mut self.context, context);
+        if matches!(old, Context::Fresh) {
+            mem::forget(old);
+        } else {
+            give_up_context(old);
+        }
     }
 
     // Takes what the block keeps, and leaves it Fresh.

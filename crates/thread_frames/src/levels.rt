@@ -63,6 +63,13 @@ impl<'a> Levels<'a> {
         Levels::new(self.pool, self.pool.under(self.stack))
     }
 
+    /// The parameters of the nearest level, from the top, that has some; None exactly where no level has.
+    pub fn params(&self) -> Option<&Params>
+        ensures { option_map (λ p. p.now) result ≡ near_params self.now }
+    {
+        params_in(self.pool, self.stack)
+    }
+
     /// The levels under so many from the top. It goes from each of these to the next.
     pub fn below(&self, count: usize) -> Levels<'a>
         ensures { result ≡ drop count self.now }

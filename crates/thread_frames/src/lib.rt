@@ -5,6 +5,7 @@
 mod entry;
 mod indexes;
 mod level;
+mod level_stacks;
 mod levels;
 mod parts;
 mod slot_index;
@@ -15,7 +16,6 @@ mod thread_ends;
 mod thread_levels;
 mod thread_starts;
 mod threads;
-mod unwinding;
 
 pub use level::Level;
 pub use levels::Levels;

@@ -45,7 +45,7 @@ impl Table {
     }
 
     // The threads of the list.
-    #[inline]
+    #[inline(always)]
     pub(crate) fn list(&self) -> &[Entry]
         ensures { result.now ≡ self.now.list }
     {
@@ -53,7 +53,7 @@ impl Table {
     }
 
     // Whether a thread is detached.
-    #[inline]
+    #[inline(always)]
     pub(crate) fn is_any_detached(&self) -> bool
         ensures { result ≡ is_some self.now.detached }
     {
@@ -61,7 +61,7 @@ impl Table {
     }
 
     // The thread at a place.
-    #[inline]
+    #[inline(always)]
     pub(crate) fn at(&self, which: Which) -> Option<&Entry>
         ensures { option_copied result ≡ at_place which self.now }
     {
@@ -72,7 +72,7 @@ impl Table {
     }
 
     // Where the levels of the thread at a place stand; nowhere where there is none.
-    #[inline]
+    #[inline(always)]
     pub(crate) fn stack(&self, which: Which) -> Stack
         ensures { result ≡ stack_of (at_place which self.now) }
     {
@@ -83,7 +83,7 @@ impl Table {
     }
 
     // The thread of a slot, to be changed.
-    #[inline]
+    #[inline(always)]
     fn slot_mut(&mut self, slot: usize) -> Option<&mut Entry>
         ensures* lends { sem 𝓛 (LendsEntry self.entry (Which.Slot slot) result) }
         ensures entry { option_map (λ e. e.now) result ≡ at_place (Which.Slot slot) self.old }
@@ -92,7 +92,7 @@ impl Table {
     }
 
     // The detached thread, to be changed.
-    #[inline]
+    #[inline(always)]
     fn detached_mut(&mut self) -> Option<&mut Entry>
         ensures* lends { sem 𝓛 (LendsEntry self.entry Which.Detached result) }
         ensures entry { option_map (λ e. e.now) result ≡ at_place Which.Detached self.old }
@@ -101,7 +101,7 @@ impl Table {
     }
 
     // The thread at a place, to be changed.
-    #[inline]
+    #[inline(always)]
     pub(crate) fn at_mut(&mut self, which: Which) -> Option<&mut Entry>
         ensures* lends { sem 𝓛 (LendsEntry self.entry which result) }
         ensures entry { option_map (λ e. e.now) result ≡ at_place which self.old }
@@ -113,7 +113,7 @@ impl Table {
     }
 
     // Appends a thread. The only error is want of memory, and then nothing changes.
-    #[inline]
+    #[inline(always)]
     pub(crate) fn append(&mut self, entry: Entry) -> Result<(), AllocError>
         ensures ok { OnOk result (self.new ≡ record { list = self.old.list ++ entry ∷ []; detached = self.old.detached }) }
         ensures err { OnErr result (self.new ≡ self.old) }
@@ -123,7 +123,7 @@ impl Table {
     }
 
     // Puts a thread into a slot; the one that stood there is the detached one now.
-    #[inline]
+    #[inline(always)]
     pub(crate) fn detach(&mut self, slot: usize, entry: Entry)
         requires { slot < length self.old.list }
         ensures { self.new ≡ record { list = slice_set self.old.list slot entry; detached = slice_get self.old.list slot } }
@@ -133,7 +133,7 @@ impl Table {
     }
 
     // Takes the detached thread away.
-    #[inline]
+    #[inline(always)]
     pub(crate) fn forget_detached(&mut self)
         ensures { self.new ≡ none_detached self.old }
     {

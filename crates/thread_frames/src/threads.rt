@@ -85,7 +85,7 @@ impl Threads {
     }
 
     /// The place of the running thread while a slot is visited: a detached thread is the running one.
-    #[inline]
+    #[inline(always)]
     pub fn place(&self, slot: u64) -> Which
         ensures { result ≡ place slot self.now }
     {
@@ -97,7 +97,7 @@ impl Threads {
     }
 
     /// The thread at a place; None exactly where none stands there.
-    #[inline]
+    #[inline(always)]
     pub fn thread(&self, which: Which) -> Option<Thread>
         ensures { result ≡ option_map bare (at_place which self.now) }
     {
@@ -108,7 +108,7 @@ impl Threads {
     }
 
     /// The levels of a thread, to be read; none where no thread stands at the place.
-    #[inline]
+    #[inline(always)]
     pub fn levels_at(&self, which: Which) -> Levels<'_>
         ensures { result ≡ levels_of (at_place which self.now) }
     {
@@ -116,7 +116,7 @@ impl Threads {
     }
 
     /// The top level of a thread; None exactly where there is no such level.
-    #[inline]
+    #[inline(always)]
     pub fn top(&self, which: Which) -> Option<&Level>
         ensures { option_copied result ≡ slice_get (levels_of (at_place which self.now)) 0 }
     {
@@ -141,7 +141,7 @@ impl Threads {
     }
 
     /// The parameters of the nearest level of a thread, from the top, that has some; None exactly where no level has.
-    #[inline]
+    #[inline(always)]
     pub fn params(&self, which: Which) -> Option<&Params>
         ensures { option_map (λ p. p.now) result ≡ near_params (levels_of (at_place which self.now)) }
     {

@@ -1,8 +1,8 @@
 -- A thread that is changed in its place, read of its levels.
-use Rattle.std.proofs.Common.{◌≡◌, ℕ, ◌+◌, ◌<◌, ◌≤◌, Bool, true, false, List, [], ◌∷◌, ◌++◌, length, Option, Some, None, Result, Ok, Err, refl, sym, ap, ◌∙◌, subst, arith}
+use Rattle.std.proofs.Common.{◌≡◌, ℕ, ◌+◌, ◌<◌, ◌≤◌, Bool, true, false, List, [], ◌∷◌, ◌++◌, length, Option, Some, None, Err, refl, sym, ap, ◌∙◌, subst, arith}
 use Rattle.std.specs.Prelude.{is_some, nat_lt, if◌then◌else◌}
 use Rattle.std.proofs.lemmas.Bool.Decides.{nat_tests}
-use Rattle.machine_spec.specs.Outcome.{Outcome, Goes, Full, most_levels, with_room}
+use Rattle.machine_spec.specs.Outcome.{Goes, Full, most_levels, with_room}
 use Rattle.machine_spec.specs.Pending.{Item, Position, dos}
 use Rattle.machine_spec.specs.declared.threads.Which.{Which}
 use Rattle.machine_spec.specs.Places.{Places, at_place, put, put_some, on_place}

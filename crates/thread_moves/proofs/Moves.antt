@@ -1,5 +1,5 @@
 -- What each control does to the levels.
-use Rattle.std.proofs.Common.{◌≡◌, ◌==◌, ℕ, Bool, true, false, List, ◌∷◌, ◌++◌, Option, Some, None, refl, sym, ap, ◌∙◌, subst, arith, inl, inr}
+use Rattle.std.proofs.Common.{◌≡◌, ◌==◌, ℕ, Bool, true, false, List, ◌∷◌, ◌++◌, length, Option, Some, None, refl, sym, ap, ◌∙◌, subst, arith, inl, inr}
 use Rattle.std.proofs.lemmas.Bool.{cases_Bool}
 use Rattle.std.specs.Prelude.{is_some, slice_get, IfSome, ◌&&◌}
 use Rattle.std.proofs.lemmas.Option.{slice_get_within}
@@ -16,11 +16,11 @@ use Rattle.cached_blocks.specs.declared.block.CachedBlock.{CachedBlock}
 use Rattle.cached_blocks.specs.Cached.{cached_block, cached_blocks}
 use Rattle.cached_blocks.specs.Told.{IsLower, ScriptIsTold, LinksFall}
 use Rattle.cached_blocks.proofs.Told.{held}
-use Rattle.thread_frames.specs.Levels.{new_level, on_top, without_top, at_next, with_loop, with_context, unwound, warp_flag}
+use Rattle.thread_frames.specs.Levels.{new_level, on_top, without_top, at_next, with_loop, with_context, unwound, top_block, warp_flag}
 use Rattle.thread_frames.specs.Reading.{params_in, first_by, first_item, marker, beneath, pending}
 use Rattle.thread_frames.specs.Fit.{kind_of, IsUnder, AllUnder, top_at, IsTop, IsHeld, LevelsFit, IsReadyAt}
 use Rattle.thread_moves.specs.Ranked.{IsRanked}
-use Rattle.thread_moves.specs.Standing.{IsAt, IsReadyUnless, is_ended, TopHolds, branch_link}
+use Rattle.thread_moves.specs.Standing.{IsAt, IsReadyUnless, is_ended, TopHolds, branch_link, IsCovered, emptied}
 use Rattle.thread_moves.proofs.Fits.{fresh_top, both, branches_no_call, waits_no_call, waits_no_branch, top_called, top_loop, branch_mark, branch_called}
 use Rattle.thread_moves.proofs.Items.{next_held, at_block, fresh_items, block_at_is}
 use Rattle.thread_moves.proofs.Unwinds.{unwind_dos, unwound_report, unwound_is}
@@ -72,6 +72,14 @@ module _ (sheet : Sheet) (old : List Level) (k : ℕ) (ranked : IsRanked sheet) 
             ∙ ap (λ x. settle (x ++ beneath sheet th.under) th.top.warp) (fresh_items sheet n ranked next)
             ∙ ap (λ x. settle x th.top.warp) (sym r_is)
             ∙ ap (λ x. settle r x) (sym warp_is),
+      )
+
+  -- and no block follows
+  pub next_covers : target_of_link th.block.next ≡ None → IsCovered sheet (emptied old) × (settle (pending sheet (emptied old)) (warp_flag (emptied old)) ≡ settle r (warp_flag old))
+  next_covers none =
+      let next = next_is (emptied old) (ap (λ n. on_top (at_next n) old) (sym none)) in (
+        record { fit = next.0; there = omega (arith, ap (λ ls. length (emptied ls)) th.is); empty = ap (λ ls. top_block (emptied ls)) th.is },
+        next.1,
       )
 
   -- a level is pushed on this one, which is now l

@@ -1,5 +1,5 @@
 -- A level is opened over the top one, which was changed twice before.
-use Rattle.std.proofs.Common.{◌≡◌, ℕ, ◌<◌, ◌∷◌, Some, Err, refl, sym, ap, ◌∙◌, subst, arith}
+use Rattle.std.proofs.Common.{◌≡◌, ℕ, ◌<◌, List, ◌∷◌, Some, Err, refl, ap, ◌∙◌, arith}
 use Rattle.machine_spec.specs.Outcome.{Goes, most_levels, with_room}
 use Rattle.machine_spec.specs.declared.threads.Which.{Which}
 use Rattle.machine_spec.specs.Places.{Places, at_place, on_place}
@@ -45,3 +45,15 @@ module _ (p : Project) (which : Which) (target k : ℕ) (old : Places Thread) (a
 
     pub room_three : open_levels frames old < most_levels
     room_three = let lt = was_room (open_levels frames two) (on_place (on_levels (λ ls. l ∷ ls)) which two) three pushed in omega (arith, lt, open_two)
+
+-- A level is opened over those of a thread, which are changed at once.
+module _ (p : Project) (which : Which) (target k : ℕ) (old : Places Thread) (at : IsAtBlock p which old target k) (g : List Level → List Level) (new : Places Thread)
+    (opened : with_room (open_levels frames old) (on_place (on_levels g) which old) ≡ Goes new) where
+  opened_is : new ≡ on_place (on_levels g) which old
+  opened_is = room_goes (open_levels frames old) (on_place (on_levels g) which old) new opened
+
+  pub levels_opened : levels_at which new ≡ g (levels_at which old)
+  levels_opened = levels_there which g old new at.thread at.found opened_is
+
+  pub only_opened : OnlyLevels which old new
+  only_opened = only_on which g old new opened_is

@@ -1,6 +1,6 @@
 -- Levels without a block are left.
 use Rattle.std.proofs.Common.{◌≡◌, ℕ, ◌<◌, Bool, true, false, List, [], ◌∷◌, ◌++◌, length, Option, Some, None, refl, sym, ap, ◌∙◌, subst, arith}
-use Rattle.std.specs.Prelude.{slice_get, is_some}
+use Rattle.std.specs.Prelude.{slice_get, is_some, option_map}
 use Rattle.machine_spec.specs.Script.{Statement}
 use Rattle.machine_spec.specs.declared.threads.Report.{Report}
 use Rattle.machine_spec.specs.declared.threads.Report.TheVariants.{Go, Uncovered, Ended}
@@ -9,11 +9,11 @@ use Rattle.project_spec.specs.declared.blocks.Block.{Block}
 use Rattle.project_spec.specs.Trees.{Sheet, target_of_link, script, statement}
 use Rattle.project_spec.proofs.Unrolling.{held_at}
 use Rattle.thread_frames.specs.declared.level.Level.{Level}
-use Rattle.thread_frames.specs.Levels.{on_top, without_top, at_next, top_block, warp_flag}
+use Rattle.thread_frames.specs.Levels.{new_level, on_top, mark_of, without_top, at_next, top_block, warp_flag}
 use Rattle.thread_frames.specs.Reading.{params_in, first_by, first_item, marker_by, marker, items_at, beneath, pending}
 use Rattle.thread_frames.specs.Fit.{IsUnder, AllUnder, AreStacked, LevelsFit, IsReadyAt, IsHeld}
 use Rattle.thread_moves.specs.Ranked.{IsRanked}
-use Rattle.thread_moves.specs.Standing.{IsAt, IsCovered, SettlesAlike}
+use Rattle.thread_moves.specs.Standing.{IsAt, IsCovered, IsOpened, SettlesAlike, emptied}
 use Rattle.thread_moves.proofs.Fits.{fresh_top}
 use Rattle.thread_moves.proofs.Items.{settle_first, settle_plain, next_held, at_block, fresh_items, under_held, under_is_top}
 
@@ -131,16 +131,85 @@ settled sheet (t ∷ ls) top fit h some =
 pub settled_is : (sheet : Sheet) (old levels : List Level) (top : Level) → SettlesAlike sheet old levels → slice_get levels 0 ≡ Some top → is_some top.block ≡ true → IsAt sheet (settle (pending sheet old) (warp_flag old)) levels Go
 settled_is sheet old levels top alike h some = IsAt-move sheet _ _ levels levels Go (sym alike.same) refl (settled sheet levels top alike.fit h some)
 
--- no level is left
-pub settled_none : (sheet : Sheet) (old levels : List Level) → SettlesAlike sheet old levels → slice_get levels 0 ≡ None → IsAt sheet (settle (pending sheet old) (warp_flag old)) levels Ended
-settled_none sheet old [] alike h = IsAt-move sheet _ _ [] [] Ended (sym alike.same) refl (at_end sheet false)
-settled_none sheet old (t ∷ ls) alike h = absurd (cc h)
+-- Levels are left one after another
 
--- a top level without a block can be left
-pub covered : (sheet : Sheet) (old levels : List Level) (top : Level) → SettlesAlike sheet old levels → slice_get levels 0 ≡ Some top → is_some top.block ≡ false → IsCovered sheet levels
-covered sheet old [] top alike h none = absurd (cc h)
-covered sheet old (t ∷ ls) top alike h none = record { fit = alike.fit; there = omega arith; empty = let same : t ≡ top = cc h in (ap (λ l. l.block) same ∙ none_of top.block none) }
-  where
-    none_of : {X : Type 0} (o : Option X) → is_some o ≡ false → o ≡ None
-    none_of None h = refl
-    none_of (Some x) h = absurd (cc)
+without_top-emptied : (levels : List Level) → without_top (emptied levels) ≡ without_top levels
+without_top-emptied [] = refl
+without_top-emptied (t ∷ ls) = refl
+
+pub none_of : {X : Type 0} (o : Option X) → is_some o ≡ false → o ≡ None
+none_of None h = refl
+none_of (Some x) h = absurd (cc)
+
+-- a level with this mark and block is there
+record Marked (o : Option Level) (m : Bool) (b : Option ℕ) : Type 0 where
+  pub top : Level
+  pub is : o ≡ Some top
+  pub loop : top.is_loop ≡ m
+  pub block : top.block ≡ b
+
+marked : (o : Option Level) (m : Bool) (b : Option ℕ) → Some (m, b) ≡ option_map mark_of o → Marked o m b
+marked None m b e = absurd (cc e)
+marked (Some t) m b e =
+    let same : (m, b) ≡ mark_of t = cc in
+    record { top = t; is = refl; loop = sym (ap (λ x. x.0) same); block = sym (ap (λ x. x.1) same) }
+
+unmarked : (o : Option Level) → None ≡ option_map mark_of o → o ≡ None
+unmarked None e = refl
+unmarked (Some t) e = absurd (cc e)
+
+-- the top level was given up, and the one under it has this mark and this block
+pub record Uncovers (sheet : Sheet) (old new : List Level) (m : Bool) (b : Option ℕ) : Type 0 where
+  pub top : Level
+  pub left : Left sheet (emptied old) new top
+  pub loop : top.is_loop ≡ m
+  pub block : top.block ≡ b
+
+module _ (sheet : Sheet) (old new : List Level) (cov : IsCovered sheet (emptied old)) (e : new ≡ without_top old) where
+  pub uncovers : (m : Bool) (b : Option ℕ) → Some (m, b) ≡ option_map mark_of (slice_get (without_top old) 0) → Uncovers sheet old new m b
+  uncovers m b h =
+      let k = marked (slice_get (without_top old) 0) m b h in
+      record { top = k.top; left = left sheet (emptied old) new k.top cov.fit (e ∙ sym (without_top-emptied old)) (ap (λ ls. slice_get ls 0) e ∙ k.is); loop = k.loop; block = k.block }
+
+  pub uncovers_none : None ≡ option_map mark_of (slice_get (without_top old) 0) → IsAt sheet (settle (pending sheet (emptied old)) (warp_flag (emptied old))) new Ended
+  uncovers_none h = leave_ended sheet (emptied old) new cov (e ∙ sym (without_top-emptied old)) (ap (λ ls. slice_get ls 0) e ∙ unmarked (slice_get (without_top old) 0) h)
+
+  pub one_fewer : length new < length old
+  one_fewer = by old cov.there e
+    where
+      by : (ls : List Level) → 0 < length (emptied ls) → new ≡ without_top ls → length new < length ls
+      by [] there is = absurd (omega (arith, there))
+      by (t ∷ ls) there is = omega (arith, ap length is)
+
+-- a block follows that of the top level
+pub gone_on : (sheet : Sheet) (old new final : List Level) (top : Level) (next : Option ℕ) → Left sheet old new top → SettlesAlike sheet old final → final ≡ on_top (at_next next) new → is_some next ≡ true
+    → IsAt sheet (settle (pending sheet old) (warp_flag old)) final Go
+gone_on sheet old new final top next c alike e some =
+    settled_is sheet old final (at_next next top) alike (ap (λ ls. slice_get ls 0) (e ∙ ap (on_top (at_next next)) c.new_is)) some
+
+-- and none does, so the next one is left
+pub covered : (sheet : Sheet) (old new : List Level) (top : Level) → Left sheet old new top → SettlesAlike sheet old (emptied new) → IsCovered sheet (emptied new)
+covered sheet old new top c alike = record {
+  fit = alike.fit;
+  there = omega (arith, ap (λ ls. length (emptied ls)) c.new_is);
+  empty = ap (λ ls. top_block (emptied ls)) c.new_is;
+}
+
+-- the next block is there
+pub settled_next : (sheet : Sheet) (levels under : List Level) (next : Option ℕ) (top : Level) → levels ≡ on_top (at_next next) (top ∷ under) → LevelsFit sheet levels → is_some next ≡ true
+    → IsAt sheet (settle (pending sheet levels) (warp_flag levels)) levels Go
+settled_next sheet levels under next top e fit some = settled sheet levels (at_next next top) fit (ap (λ ls. slice_get ls 0) e) some
+
+-- a level that was just opened begins with its first block
+pub opened_first : (sheet : Sheet) (first : Option ℕ) (levels : List Level) → IsOpened sheet first levels → is_some first ≡ true → IsAt sheet (settle (pending sheet levels) (warp_flag levels)) levels Go
+opened_first sheet first levels o some = settled sheet levels (new_level first o.warp) o.fit (ap (λ ls. slice_get ls 0) o.is) some
+
+-- and is left where it has none
+pub opened_empty : (sheet : Sheet) (first : Option ℕ) (levels : List Level) → IsOpened sheet first levels → first ≡ None
+    → IsCovered sheet (emptied levels) × (settle (pending sheet (emptied levels)) (warp_flag (emptied levels)) ≡ settle (pending sheet levels) (warp_flag levels))
+opened_empty sheet first levels o none =
+    let is : levels ≡ new_level None o.warp ∷ o.under = o.is ∙ ap (λ f. new_level f o.warp ∷ o.under) none in
+    let same : emptied levels ≡ levels = ap emptied is ∙ sym is in (
+      record { fit = subst (LevelsFit sheet) (sym same) o.fit; there = omega (arith, ap (λ ls. length (emptied ls)) is); empty = ap (λ ls. top_block (emptied ls)) is },
+      ap (λ ls. settle (pending sheet ls) (warp_flag ls)) same,
+    )

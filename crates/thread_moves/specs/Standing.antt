@@ -10,7 +10,7 @@ use Rattle.project_spec.specs.declared.blocks.Block.{Block}
 use Rattle.project_spec.specs.Trees.{Sheet, script}
 use Rattle.cached_blocks.specs.declared.block.CachedBlock.{CachedBlock}
 use Rattle.thread_frames.specs.declared.level.Level.{Level}
-use Rattle.thread_frames.specs.Levels.{without_top, top_block, warp_flag}
+use Rattle.thread_frames.specs.Levels.{at_next, new_level, on_top, without_top, top_block, warp_flag}
 use Rattle.thread_frames.specs.Reading.{beneath, pending}
 use Rattle.thread_frames.specs.Fit.{kind_of, AllUnder, LevelsFit, IsReadyAt}
 
@@ -55,6 +55,17 @@ pub record IsCovered (sheet : Sheet) (levels : List Level) : Type 0 where
   pub fit : LevelsFit sheet levels
   pub there : 0 < length levels
   pub empty : top_block levels ≡ None
+
+-- the top level was just opened, with this block
+pub record IsOpened (sheet : Sheet) (first : Option ℕ) (levels : List Level) : Type 0 where
+  pub warp : Bool
+  pub under : List Level
+  pub is : levels ≡ new_level first warp ∷ under
+  pub fit : LevelsFit sheet levels
+
+-- the block of the top level is done with, and no block follows it
+abbrev pub emptied : List Level → List Level
+emptied levels = on_top (at_next None) levels
 
 -- what is left to do settles to the same
 pub record SettlesAlike (sheet : Sheet) (old new : List Level) : Type 0 where

@@ -13,27 +13,39 @@ ghost use Rattle.machine_spec.specs.declared.threads.Control.TheVariants as cont
 ghost use Rattle.machine_spec.specs.Places.{on_place};
 ghost use Rattle.machine_spec.specs.Step.{position};
 ghost use Rattle.project_check.specs.Loaded.{program_of, sheet_at};
-ghost use Rattle.thread_frames.specs.Levels.{warp_flag};
+ghost use Rattle.thread_frames.specs.Levels.{top_block, warp_flag};
 ghost use Rattle.thread_frames.specs.Stops.{PushStopIs};
 ghost use Rattle.thread_frames.specs.Threads.{frames, with_status};
 ghost use Rattle.thread_moves.specs.Moves.{IsAtBlock, MovesOn, OnlyLevels, levels_at};
 ghost use Rattle.thread_moves.specs.Standing.{TopHolds, MovesTo, is_ended};
 
-use crate::empty_levels::settle;
+use crate::empty_levels::{arrive, leave};
 use crate::links::{branch, linked};
 use cached_blocks::{a_script_is_told, links_fall};
 use machine_spec::{BlockId, Context, Report, Status, TargetId, Which};
 use project_check::Project;
 use thread_frames::{PushStop, Threads};
 
-/// The warp flag of the top level of a thread; that of no levels is false.
+// The warp flag of the top level of a thread; that of no levels is false.
 #[inline]
-pub fn is_warp(threads: &Threads, which: Which) -> bool
+pub(crate) fn is_warp(threads: &Threads, which: Which) -> bool
     ensures { result ≡ warp_flag (levels_at which threads.now) }
 {
     match threads.top(which) {
         Some(top) => top.warp,
         None => false,
+    }
+}
+
+/// The block that the top level of a thread holds, if any, and the warp flag of that level; that of no levels is false.
+#[inline(always)]
+pub fn head(threads: &Threads, which: Which) -> (Option<BlockId>, bool)
+    ensures block { result.0 ≡ top_block (levels_at which threads.now) }
+    ensures warp { result.1 ≡ warp_flag (levels_at which threads.now) }
+{
+    match threads.top(which) {
+        Some(top) => (top.block, top.warp),
+        None => (None, false),
     }
 }
 
@@ -77,12 +89,16 @@ pub(crate) fn pass(
     ensures only { OnlyLevels which threads.old threads.new }
 {
     let block = linked(project, target, id);
-    threads.go_next(which, block.next);
-    settle(project, target, threads, which)
+    if block.next.is_some() {
+        threads.go_next(which, block.next);
+        Report::Go
+    } else {
+        leave(project, target, threads, which)
+    }
 }
 
 /// Goes on behind the block of the top level of a thread.
-#[inline]
+#[inline(always)]
 pub fn go_on(
     project: &Project,
     threads: &mut Threads,
@@ -99,7 +115,7 @@ pub fn go_on(
 
 /// Enters a branch of the block of the top level of a thread, which keeps the context and the loop mark. Full exactly where
 /// 65,536 levels are open; the only other error is want of memory. After an error nothing is told of the thread.
-#[inline]
+#[inline(always)]
 pub fn enter(
     project: &Project,
     threads: &mut Threads,
@@ -119,14 +135,11 @@ pub fn enter(
     a_script_is_told();
     links_fall();
     let block = linked(project, target, id);
-    let warp = is_warp(threads, which);
-    threads.set_loop(which, is_loop);
-    threads.set_context(which, context);
-    match threads.push(which, branch(block, number), warp) {
+    match threads.open_branch(which, is_loop, context, branch(block, number)) {
         Ok(()) => {}
         Err(stop) => return Err(stop),
     }
-    let report = settle(project, target, threads, which);
+    let report = arrive(project, target, threads, which, branch(block, number));
     Ok(report_of(threads, which, report))
 }
 

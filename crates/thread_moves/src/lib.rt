@@ -8,6 +8,6 @@ mod links;
 mod procedure_calls;
 mod resumption;
 
-pub use level_moves::{enter, go_on, is_warp, stay, stop_this_script};
+pub use level_moves::{enter, go_on, head, stay, stop_this_script};
 pub use procedure_calls::call;
 pub use resumption::resume;

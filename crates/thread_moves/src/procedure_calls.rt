@@ -19,8 +19,7 @@ ghost use Rattle.thread_frames.specs.Threads.{frames};
 ghost use Rattle.thread_moves.specs.Moves.{IsAtBlock, MovesOn, levels_at};
 ghost use Rattle.thread_moves.specs.Standing.{is_ended};
 
-use crate::empty_levels::settle;
-use crate::level_moves::{is_warp, report_of};
+use crate::level_moves::{is_warp, pass, report_of};
 use crate::links::linked;
 use machine_spec::{BlockId, Boxed, Context, MOST_LEVELS, Report, TargetId, Which};
 use project_check::Project;
@@ -111,8 +110,7 @@ pub fn call(
     let block = linked(project, target, id);
     match project.callee(target, block.code.as_str()) {
         None => {
-            threads.go_next(which, block.next);
-            let report = settle(project, target, threads, which);
+            let report = pass(project, target, threads, which, id);
             Ok(report_of(threads, which, report))
         }
         Some(callee) => {

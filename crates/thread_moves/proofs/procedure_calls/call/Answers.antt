@@ -1,10 +1,9 @@
 -- The procedure is entered, or the block is passed.
-use Rattle.std.proofs.Common.{◌≡◌, ◌∷◌, ◌≤◌, ◌<◌, Some, None, true, false, sym, ap, ◌∙◌, refl, subst, arith}
+use Rattle.std.proofs.Common.{◌≡◌, Some, None, true, sym, ap, ◌∙◌, refl, subst, arith}
 use Rattle.std.specs.Prelude.{◌||◌, option_map}
 use Rattle.opcode_table.specs.Kinds.{kind}
 use Rattle.machine_spec.specs.Keeping.{is_calls}
 use Rattle.machine_spec.specs.Called.{called}
-use Rattle.machine_spec.specs.Outcome.{most_levels}
 use Rattle.machine_spec.specs.Pending as machine
 use Rattle.machine_spec.specs.Program.{procedure}
 use Rattle.machine_spec.specs.Starting.{open_levels}
@@ -13,23 +12,21 @@ use Rattle.machine_spec.specs.declared.threads.Context.TheVariants.{Called}
 use Rattle.machine_spec.specs.declared.threads.Report.{Report}
 use Rattle.project_check.specs.Loaded.{program_of, sheet_at}
 use Rattle.project_check.specs.Procedures.{callee_in, procedure_in}
-use Rattle.project_spec.specs.Trees.{call_code}
-use Rattle.thread_frames.specs.Levels.{new_level, on_top, at_next, with_context, with_params, warp_flag}
+use Rattle.project_spec.specs.Trees.{call_code, statement}
+use Rattle.project_spec.proofs.Unrolling.{script-at}
+use Rattle.thread_frames.specs.Levels.{with_context, with_params, warp_flag}
 use Rattle.thread_frames.specs.Reading.{pending}
 use Rattle.thread_frames.specs.Threads.{frames}
 use Rattle.thread_moves.specs.Moves.{MovesOn, levels_at}
-use Rattle.thread_moves.proofs.InPlace.{levels_are, only_on, only_then, no_room, top_at, moves_on}
-use Rattle.thread_moves.proofs.Moves.{told, next_is, cached, cached_is, top_stacked}
+use Rattle.thread_moves.proofs.InPlace.{no_room, top_at, moves_on}
+use Rattle.thread_moves.proofs.Moves.{told, cached, cached_is, top_stacked}
 use Rattle.thread_moves.proofs.Calls.{call_is, enters}
 use Rattle.thread_moves.proofs.Opened.{levels_three, only_three, stops_two}
-use Rattle.thread_moves.proofs.Settles.{IsAt-move}
 use Rattle.thread_moves.proofs.procedure_calls.call.Goals as goal
 use Rattle.thread_moves.proofs.procedure_calls.call.Goals.{then-warp, else-warp}
 
-pub settle-report-requires : goal.settle-report-requires
-settle-report-requires c =
-    let th = top_at _ _ _ _ _ c.requires.at in
-    record { fit = (next_is _ _ _ c.linked-block.ensures.ranked th _ (levels_are c.args.which (on_top (at_next c.linked-block.result.now.next)) _ _ c.go_next.ensures refl ∙ ap (λ x. on_top (at_next x.next) (levels_at c.args.which c.args.threads.now)) (cached_is _ _ _ c.linked-block.ensures.ranked th _ c.linked-block.ensures.block))).0 }
+pub pass-report-requires : goal.pass-report-requires
+pass-report-requires c = top_at _ _ _ _ _ c.requires.at
 
 pub is_recursive-recursive-requires : goal.is_recursive-recursive-requires
 is_recursive-recursive-requires c = record { under = top_stacked _ _ _ c.linked-block.ensures.ranked (top_at _ _ _ _ _ c.requires.at) }
@@ -42,14 +39,12 @@ returns-in-None-clause-at c =
     let calls = cached _ _ _ ranked th (λ x. is_calls (kind x.op) ≡ true) _ c.linked-block.ensures.block c.requires.calls in
     let none : procedure c.args.target (call_code th.block.mutation) (program_of c.args.project.now) ≡ None =
     ap (λ t. procedure c.args.target t (program_of c.args.project.now)) (sym (c.as_str.ensures ∙ ap (λ x. x.code) b)) ∙ sym c.callee.ensures.procedure ∙ ap (option_map (λ d. procedure_in (sheet_at c.args.target c.args.project.now) (callee_in d))) c.in-None.is in
-    let next = levels_are c.args.which (on_top (at_next c.linked-block.result.now.next)) _ _ c.go_next.ensures refl ∙ ap (λ x. on_top (at_next x.next) (levels_at c.args.which c.args.threads.now)) b in
     subst (MovesOn c.args.project.now c.args.which c.args.target c.args.id (λ s rest warp. entered_some (called (program_of c.args.project.now) s) c.args.late warp s rest c.args.params) c.args.threads.now c.report_of.new.threads) (sym c.report_of.ensures.same)
-    (moves_on _ _ _ _ _ c.requires.at _ _ c.settle-report.result
-    (only_then c.args.which _ _ _ (only_on c.args.which (on_top (at_next c.linked-block.result.now.next)) _ _ c.go_next.ensures) c.settle-report.ensures.only)
+    (moves_on _ _ _ _ _ c.requires.at _ _ c.pass-report.result c.pass-report.ensures.only
     c.report_of.ensures.status (λ s rest warp. entered_some (called (program_of c.args.project.now) s) c.args.late warp s rest c.args.params)
     (told _ _ _ ranked th (λ s rest. entered_some (called (program_of c.args.project.now) s) c.args.late (warp_flag (levels_at c.args.which c.args.threads.now)) s rest c.args.params) _ _
     (enters c.args.project.now c.args.target _ _ ranked th calls None _ _ _ _ none
-    (IsAt-move _ _ _ _ _ _ (sym (next_is _ _ _ ranked th _ next).1) refl c.settle-report.ensures.at))))
+    (c.pass-report.ensures.at (statement (sheet_at c.args.target c.args.project.now) c.args.id th.block) _ (script-at (sheet_at c.args.target c.args.project.now) ranked.ranks ranked.falls c.args.id th.block th.found)))))
 
 pub returns-in-Ok-clause-at : goal.returns-in-Ok-clause-at
 returns-in-Ok-clause-at c =

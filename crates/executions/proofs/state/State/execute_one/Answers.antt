@@ -15,6 +15,7 @@ use Rattle.machine_spec.specs.Outcome.{Goes}
 use Rattle.machine_spec.specs.declared.threads.Report.{Report}
 use Rattle.executions.specs.Seen.{sheets}
 use Rattle.executions.proofs.Enacting.{of_ok}
+use Rattle.thread_frames.specs.Levels.{near_params}
 use Rattle.executions.proofs.Rowing.{executes_so, runner_stopped}
 use Rattle.executions.proofs.state.State.execute_one.Goals as goal
 
@@ -25,14 +26,14 @@ sole_arguments first sheet k b here fields same a is = ap (λ o. arguments (pair
 
 pub returns-then-matches : goal.returns-then-matches
 returns-then-matches g c =
-    executes_so g.R.Rng.stream c.args.project.now c.args.slot c.args.id c.args.late (arguments (pair_of c.in-Ok.first ∷ []) c.args.block.now.fields) c.args.runner.now c.args.self.now c.requires.at _ c.params-near.ensures c.only_input.new.words
+    executes_so g.R.Rng.stream c.args.project.now c.args.slot c.args.id c.args.late (arguments (pair_of c.in-Ok.first ∷ []) c.args.block.now.fields) c.args.runner.now c.args.self.now c.requires.at _ (ap near_params c.levels_at-levels.ensures) c.only_input.new.words
     (λ s rest e. of_ok c.only_input.result _ c.in-Ok.first c.in-Ok.is c.only_input.ensures.ok s rest e
     ∙ ap (λ a. Goes (record { value = a; words = seen_words g.R.Rng.stream c.only_input.new.words })) (sole_arguments c.in-Ok.first (sheets c.args.project.now c.args.runner.now.target) c.args.id c.args.block.now c.requires.block c.args.block.now.fields refl (arguments (pair_of c.in-Ok.first ∷ []) c.args.block.now.fields) refl))
     c.enact_data_one.result c.args.runner.now c.enact_data_one.new.self c.enact_data_one.ensures
 
 pub returns-else-matches : goal.returns-else-matches
 returns-else-matches g c =
-    executes_so g.R.Rng.stream c.args.project.now c.args.slot c.args.id c.args.late (arguments (pair_of c.in-Ok.first ∷ []) c.args.block.now.fields) c.args.runner.now c.args.self.now c.requires.at _ c.params-near.ensures c.only_input.new.words
+    executes_so g.R.Rng.stream c.args.project.now c.args.slot c.args.id c.args.late (arguments (pair_of c.in-Ok.first ∷ []) c.args.block.now.fields) c.args.runner.now c.args.self.now c.requires.at _ (ap near_params c.levels_at-levels.ensures) c.only_input.new.words
     (λ s rest e. of_ok c.only_input.result _ c.in-Ok.first c.in-Ok.is c.only_input.ensures.ok s rest e
     ∙ ap (λ a. Goes (record { value = a; words = seen_words g.R.Rng.stream c.only_input.new.words })) (sole_arguments c.in-Ok.first (sheets c.args.project.now c.args.runner.now.target) c.args.id c.args.block.now c.requires.block c.args.block.now.fields refl (arguments (pair_of c.in-Ok.first ∷ []) c.args.block.now.fields) refl))
     c.enact_by.result c.enact_by.new.runner c.enact_by.new.self c.enact_by.ensures
@@ -41,5 +42,5 @@ pub returns-in-Err : goal.returns-in-Err
 returns-in-Err g c = record {
   ok = tt;
   after = tt;
-  stop = runner_stopped g.R.Rng.stream c.args.project.now c.args.slot c.args.id c.args.late (record { values = []; fields = []; variables = [] }) c.args.runner.now c.args.self.now c.requires.at _ c.params-near.ensures Arg Report c.only_input.result c.in-Err.stop c.in-Err.is c.only_input.ensures.stop;
+  stop = runner_stopped g.R.Rng.stream c.args.project.now c.args.slot c.args.id c.args.late (record { values = []; fields = []; variables = [] }) c.args.runner.now c.args.self.now c.requires.at _ (ap near_params c.levels_at-levels.ensures) Arg Report c.only_input.result c.in-Err.stop c.in-Err.is c.only_input.ensures.stop;
 }

@@ -1,7 +1,6 @@
--- The block of the top level is one of the target's.
+-- The block was looked for.
 use Rattle.std.proofs.Common.{sym, ◌∙◌}
-use Rattle.executions.proofs.Runs.{runs_at}
 use Rattle.executions.proofs.state.State.step.Goals as goal
 
-pub execute-requires : goal.execute-requires
-execute-requires g c = runs_at c.args.project.now c.args.slot c.in-Some.id c.args.runner.now c.args.self.now c.requires (sym c.block_of.ensures ∙ c.in-Some.is)
+pub step_at-requires-clause-block : goal.step_at-requires-clause-block
+step_at-requires-clause-block g c = sym c.block_of.ensures ∙ c.in-Some.is

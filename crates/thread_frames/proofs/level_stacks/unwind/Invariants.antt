@@ -1,7 +1,7 @@
 use Rattle.std.proofs.Common.{◌≡◌, ◌≤◌}
 use Rattle.shared_stacks.specs.Chains.{IsIn, Moves, values}
 use Rattle.thread_frames.specs.Levels.{from_call, unwound}
-use Rattle.thread_frames.proofs.unwinding.unwind.Given as goal
+use Rattle.thread_frames.proofs.level_stacks.unwind.Given as goal
 
 abbrev pub invariant-loop-pool : goal.invariant-loop-pool
 invariant-loop-pool l = record {
