@@ -1,14 +1,15 @@
 -- A block whose kind keeps nothing, and a block of data, behind which the thread goes on.
-use Rattle.std.proofs.Common.{◌≡◌, ℕ, Bool, Some, Err, refl, sym, ap, ◌∙◌, subst}
+use Rattle.std.proofs.Common.{◌≡◌, ℕ, Bool, true, Some, Err, refl, sym, ap, ◌∙◌, subst}
 use Rattle.std.specs.Prelude.{slice_get}
 use Rattle.rand_core.specs.Stream.{Stream}
 use Rattle.script_words.specs.declared.stops.Stop.{Stop}
 use Rattle.scratch_values.specs.Named.{Arguments}
-use Rattle.opcode_table.specs.declared.groups.Group.TheVariants.{Data}
+use Rattle.opcode_table.specs.declared.groups.Group.TheVariants.{Data, Motion}
 use Rattle.opcode_table.specs.declared.kinds.Kind.TheVariants.{Plain}
 use Rattle.opcode_table.specs.declared.opcode.Opcode.{Opcode}
-use Rattle.opcode_table.specs.declared.opcode.Opcode.TheVariants.{DataSetVariableTo, DataChangeVariableBy, DataShowVariable, DataHideVariable, DataAddToList, DataDeleteOfList, DataDeleteAllOfList, DataInsertAtList, DataReplaceItemOfList, DataShowList, DataHideList}
+use Rattle.opcode_table.specs.declared.opcode.Opcode.TheVariants.{DataSetVariableTo, DataChangeVariableBy, DataShowVariable, DataHideVariable, DataAddToList, DataDeleteOfList, DataDeleteAllOfList, DataInsertAtList, DataReplaceItemOfList, DataShowList, DataHideList, MotionMoveSteps, MotionTurnRight, MotionTurnLeft, MotionPointInDirection, MotionGoToXY, MotionChangeXBy, MotionSetX, MotionChangeYBy, MotionSetY}
 use Rattle.opcode_table.specs.Kinds.{kind, group}
+use Rattle.motion_blocks.specs.Blocks.{is_step}
 use Rattle.machine_spec.specs.Outcome.{Goes, StopIs}
 use Rattle.machine_spec.specs.declared.threads.Context.{Context}
 use Rattle.machine_spec.specs.declared.threads.Context.TheVariants.{Fresh}
@@ -58,6 +59,34 @@ data_plain o h = absurd (cc h)
 
 pub data_keeps : (o : Opcode) → group o ≡ Data → KeepsNothing (kind o)
 data_keeps o h = subst KeepsNothing (sym (data_plain o h)) plain_keeps
+
+-- a block of motion that only moves or turns its instance
+step_plain : (o : Opcode) → is_step o ≡ true → kind o ≡ Plain
+step_plain MotionMoveSteps h = refl
+step_plain MotionTurnRight h = refl
+step_plain MotionTurnLeft h = refl
+step_plain MotionPointInDirection h = refl
+step_plain MotionGoToXY h = refl
+step_plain MotionChangeXBy h = refl
+step_plain MotionSetX h = refl
+step_plain MotionChangeYBy h = refl
+step_plain MotionSetY h = refl
+step_plain o h = absurd (cc h)
+
+pub step_group : (o : Opcode) → is_step o ≡ true → group o ≡ Motion
+step_group MotionMoveSteps h = refl
+step_group MotionTurnRight h = refl
+step_group MotionTurnLeft h = refl
+step_group MotionPointInDirection h = refl
+step_group MotionGoToXY h = refl
+step_group MotionChangeXBy h = refl
+step_group MotionSetX h = refl
+step_group MotionChangeYBy h = refl
+step_group MotionSetY h = refl
+step_group o h = absurd (cc h)
+
+pub step_keeps : (o : Opcode) → is_step o ≡ true → KeepsNothing (kind o)
+step_keeps o h = subst KeepsNothing (sym (step_plain o h)) plain_keeps
 
 module _ {R : Type 0} (stream : R → Stream) (p : Project) (i : ℕ) (which : Which) (n : Following) (late : Bool) (a : Arguments) (w : State R) (ready : IsReady p i w) (at : which ≡ place i w.threads)
     (next : next_of (at_place which w.threads) ≡ Some n)

@@ -1,6 +1,6 @@
 //! What the block of the running thread does, its inputs being evaluated.
 
-ghost use Rattle.std.specs.Prelude.{◌≡◌, [], ◌∷◌, ℕ, false};
+ghost use Rattle.std.specs.Prelude.{◌≡◌, [], ◌∷◌, ℕ, Ok, false, true};
 ghost use Rattle.opcode_table.specs.Kinds.{group};
 ghost use Rattle.opcode_table.specs.declared.groups.Group.TheVariants as group_of;
 ghost use Rattle.scratch_values.specs.Args.{arguments};
@@ -9,6 +9,7 @@ ghost use Rattle.machine_spec.specs.Keeping.{control_fits};
 ghost use Rattle.machine_spec.specs.Laws as laws;
 ghost use Rattle.machine_spec.specs.declared.threads.Context.TheVariants.{Fresh};
 ghost use Rattle.machine_spec.specs.declared.threads.Control.TheVariants.{Branch, Clone, Next as Passes};
+ghost use Rattle.motion_blocks.specs.Blocks.{is_step as only_steps};
 ghost use Rattle.targets.specs.Live.{IsLive};
 ghost use Rattle.thread_moves.specs.Standing.{is_ended as has_ended};
 ghost use Rattle.executions.specs.Answers.{Answers, Chooses};
@@ -23,6 +24,7 @@ use crate::runner::Runner;
 use crate::state::State;
 use cached_blocks::CachedBlock;
 use machine_spec::{BlockId, Context, Control, Report};
+use motion_blocks::is_step;
 use opcode_table::{Group, group};
 use project_check::Project;
 use scratch_values::{Arg, Args};
@@ -88,6 +90,28 @@ impl<R: Rng + Drop> State<R> {
             }
             Err(stop) => Err(stop),
         }
+    }
+
+    // The row of a block of motion that only moves or turns its instance, behind which the runner goes on.
+    #[inline]
+    fn enact_step(
+        &mut self,
+        project: &Project,
+        slot: u64,
+        runner: &Runner,
+        id: BlockId,
+        block: &CachedBlock,
+        args: &Args<'_>,
+        late: bool,
+    ) -> Report
+        requires at { RunsAt project.now slot runner.now self.old id }
+        requires block { IsBlock project.now runner.now.target id block.now }
+        requires step { only_steps block.now.op ≡ true }
+        ensures { Answers R.stream project.now slot (Enacts R.stream project.now slot id late args.entry.now self.old) (Ok result) runner.now self.new }
+    {
+        self.apply_step(project, block, args, runner.here);
+        let threads = &mut self.threads;
+        go_on(project, threads, runner.which, runner.target, id)
     }
 
     // A branch that the block of the runner chose is entered.
@@ -224,6 +248,9 @@ impl<R: Rng + Drop> State<R> {
         let block = project.cached(runner.target, id);
         if matches!(group(block.op), Group::Data) {
             return self.enact_data(project, slot, runner, id, block, args, late);
+        }
+        if is_step(block.op) {
+            return Ok(self.enact_step(project, slot, runner, id, block, args, late));
         }
         match way_chosen(block.op, args) {
             Some(Choice::Enter { number, is_loop }) => self.enter_chosen(

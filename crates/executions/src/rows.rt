@@ -1,6 +1,6 @@
 //! The rows of blocks on the parts of a run.
 
-ghost use Rattle.std.specs.Prelude.{◌≡◌, ◌||◌, [], ◌∷◌, ℕ, IfOk, OnOk};
+ghost use Rattle.std.specs.Prelude.{◌≡◌, ◌||◌, [], ◌∷◌, ℕ, true, IfOk, OnOk};
 ghost use Rattle.scratch_values.specs.Args.{arguments};
 ghost use Rattle.scratch_values.specs.Held.{pair_of};
 ghost use Rattle.opcode_table.specs.Kinds.{group};
@@ -8,6 +8,7 @@ ghost use Rattle.opcode_table.specs.declared.groups.Group.TheVariants as group_o
 ghost use Rattle.machine_spec.specs.declared.threads.Control.TheVariants.{Next};
 ghost use Rattle.machine_spec.specs.declared.threads.Context.{Context as Kept};
 ghost use Rattle.machine_spec.specs.declared.threads.Context.TheVariants.{Fresh};
+ghost use Rattle.motion_blocks.specs.Blocks.{is_step};
 ghost use Rattle.targets.specs.Live.{IsLive};
 ghost use Rattle.executions.specs.Ready.{ArePeopled};
 ghost use Rattle.executions.specs.Rows.{Leaves, LeavesTo, RowGoes, RowStops};
@@ -84,6 +85,25 @@ impl<R: Rng + Drop> State<R> {
             Ok(()) => Ok(()),
             Err(stop) => Err(stop),
         }
+    }
+
+    // The row of a block of motion that only moves or turns its instance.
+    #[inline]
+    pub(crate) fn apply_step(
+        &mut self,
+        project: &Project,
+        block: &CachedBlock,
+        args: &Args<'_>,
+        here: InstanceId,
+    )
+        requires group { group block.now.op ≡ group_of.Motion }
+        requires step { is_step block.now.op ≡ true }
+        ensures ok { (thread : ℕ) → (context : Kept) → RowGoes R.stream project.now block.now args.entry.now here thread context self.old Fresh self.new Next }
+        ensures kept { Leaves self.old self.new }
+    {
+        let records = project.records();
+        let redraw = motion_blocks::apply_step(block.op, args, here, records, &mut self.targets);
+        self.redraw = either(self.redraw, redraw);
     }
 
     // The row of a block of motion.

@@ -6,13 +6,14 @@ ghost use Rattle.machine_spec.specs.Keeping.{control_fits};
 ghost use Rattle.machine_spec.specs.Laws.{is_own};
 ghost use Rattle.machine_spec.specs.Motion.{motion_row, sprite_row, stepped as machine_stepped};
 ghost use Rattle.machine_spec.specs.Outcome.{Goes, StopIs};
-ghost use Rattle.machine_spec.specs.Stores.{instance_at, on_instance};
-ghost use Rattle.machine_spec.specs.Words.{seen_words};
+ghost use Rattle.machine_spec.specs.Stores.{Devices as Seen, instance_at, on_instance};
+ghost use Rattle.machine_spec.specs.Words.{Words, seen_words};
+ghost use Rattle.machine_spec.specs.declared.threads.Context.{Context as Kept};
 ghost use Rattle.machine_spec.specs.declared.threads.Context.TheVariants.{Fresh};
 ghost use Rattle.machine_spec.specs.declared.threads.Control.TheVariants.{Next};
 ghost use Rattle.target_records.specs.Records.{records_in};
 ghost use Rattle.targets.specs.Live.{IsSameCast};
-ghost use Rattle.motion_blocks.specs.Blocks.{leaves, parts_of};
+ghost use Rattle.motion_blocks.specs.Blocks.{goes_on, is_step as is_step_of, leaves, parts_of};
 ghost use Rattle.block_arguments.specs.Stops.{IsOfWordsOrMemory};
 
 use crate::{destinations, glide_steps, headings, instance, steps, turns};
@@ -95,6 +96,44 @@ fn moved<R: Rng + Drop>(
         ),
         _ => Ok(go_on(stepped(op, args, here, targets), context)),
     }
+}
+
+/// Whether a block of motion only moves or turns its instance: it keeps nothing and draws no word.
+#[inline(always)]
+pub fn is_step(op: Opcode) -> bool
+    ensures { result ≡ is_step_of op }
+{
+    match op {
+        Opcode::MotionMoveSteps
+        | Opcode::MotionTurnRight
+        | Opcode::MotionTurnLeft
+        | Opcode::MotionPointInDirection
+        | Opcode::MotionGoToXY
+        | Opcode::MotionChangeXBy
+        | Opcode::MotionSetX
+        | Opcode::MotionChangeYBy
+        | Opcode::MotionSetY => true,
+        _ => false,
+    }
+}
+
+/// Executes a block of motion that only moves or turns its instance: what `apply` does with it, behind which the next block
+/// always follows. It tells whether a redraw is requested.
+pub fn apply_step(
+    op: Opcode,
+    args: &Args<'_>,
+    here: InstanceId,
+    records: &Records,
+    targets: &mut Targets,
+) -> bool
+    requires { is_step_of op ≡ true }
+    ensures row { (devices : Seen) → (context : Kept) → (words : Words) → motion_row (records_in records.now) devices op args.entry.now here context (record { targets = targets.old; words = words }) ≡ Goes (goes_on targets.new words result) }
+    ensures cast { IsSameCast targets.old targets.new }
+{
+    if targets.is_on_stage(records, here) {
+        return false;
+    }
+    stepped(op, args, here, targets)
 }
 
 /// Executes a block of motion of an instance: the row of its opcode (scratch-vm, blocks/scratch3_motion.js). `context` is

@@ -10,4 +10,4 @@ mod places;
 mod steps;
 mod turns;
 
-pub use block_rows::apply;
+pub use block_rows::{apply, apply_step, is_step};
